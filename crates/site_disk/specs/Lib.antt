@@ -1,0 +1,4 @@
+pub mod Causes
+pub mod Takes
+pub mod State
+pub mod Calls

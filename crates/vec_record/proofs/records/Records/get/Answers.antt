@@ -1,0 +1,14 @@
+use Rattle.std.proofs.Common.{◌∙◌, sym, ap, subst, IfSome}
+use Rattle.std.specs.FinMap as map
+use Rattle.vec_record.specs.Vectors.{IsVector}
+use Rattle.vec_record.proofs.Maps.{get_vector, found_vector, behind}
+use Rattle.vec_record.proofs.records.Records.get.Goals as goal
+
+pub returns-clause-value : goal.returns-clause-value
+returns-clause-value c =
+    c.get.ensures.value ∙ (sym (get_vector c.self.inside.vectors.entries c.args.number) ∙ ap (λ s. map.get s.vectors c.args.number) c.self.view_is)
+
+pub returns-clause-vector : goal.returns-clause-vector
+returns-clause-vector c =
+    subst (λ s. IfSome c.get.result (λ v. IsVector s.width v.now)) c.self.view_is
+    (behind (IsVector c.self.inside.width) c.get.result _ c.get.ensures.value (found_vector _ _ _ c.self.invariant.1))

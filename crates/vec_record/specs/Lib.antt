@@ -1,0 +1,4 @@
+pub mod Vectors
+pub mod Distance
+pub mod Limits
+pub mod Held
