@@ -1,0 +1,5 @@
+pub mod Moments
+mod Pieces
+mod Replays
+mod Calls
+mod Writing

@@ -1,4 +1,13 @@
 pub mod Causes
 pub mod Takes
+pub mod Disk
 pub mod State
 pub mod Calls
+pub mod Silent
+pub mod Counts
+pub mod Input
+pub mod Replay
+pub mod Memory
+pub mod ByteLists
+pub mod Puts
+pub mod Clock

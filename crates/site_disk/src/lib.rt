@@ -1,13 +1,22 @@
 //! The outside: where input comes from, and the one device that answers and pages go to.
 //!
 //! It stands on `vec_record` for its lists alone. [`Source`] and [`Site`] carry the promises that
-//! every caller rests on: what a read gives, what a crash may leave, and that a call fails only
-//! where a count of faults rose. `MemSource` and `MemSite` tell all and keep them by proof;
-//! `StdSource` and `FileSite` are the trusted edge.
+//! every caller rests on: what a read gives, what a crash may leave at each moment, and that a call
+//! fails only where a count of faults rose. `MemSource` and `MemSite` tell all and keep them by
+//! proof; `StdSource` and `FileSite` are the trusted edge.
 #![tactic(auto)]
 
+mod counts;
+pub mod file_site;
+pub mod mem_site;
+pub mod mem_source;
 pub mod site;
 pub mod source;
+pub mod std_source;
 
+pub use file_site::FileSite;
+pub use mem_site::MemSite;
+pub use mem_source::MemSource;
 pub use site::Site;
 pub use source::{Failed, Source};
+pub use std_source::StdSource;

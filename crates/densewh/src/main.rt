@@ -1,0 +1,49 @@
+//! The program. It hands the words, standard input and the file beside standard output to the top
+//! call of `session_desk`, and ends with the number of its status.
+#![tactic(auto)]
+
+ghost use Rattle.std.specs.Prelude.{◌≡◌, ◌<◌};
+
+use session_desk::{Status, run};
+use site_disk::{FileSite, StdSource};
+use std::alloc::{AllocError, Global};
+use std::env;
+use std::io::ErrorKind;
+use std::marker::Brand;
+use std::process::ExitCode;
+use std::sync::ledger::{Blank, Ledger};
+use vec_record::Steps;
+
+/// The words after the program's name; no words where they can't be read, as one that isn't UTF-8.
+fn words(rt: &HostRuntime) -> Result<Vec<String>, AllocError> {
+    let mut words = Vec::new(rt.alloc());
+    match env::args(rt) {
+        Ok(args) => {
+            for word in args.skip(1) {
+                words.push(word)?;
+            }
+            Ok(words)
+        }
+        Err(error) if error.kind() == ErrorKind::OutOfMemory => Err(AllocError),
+        Err(_) => Ok(words),
+    }
+}
+
+fn run_on<L: Ledger>(alloc: Global, rt: &HostRuntime, words: &[String], blank: Blank) -> Status
+    requires name { blank.name ≡ L.name }
+    requires parts { blank.parts ≡ L.parts }
+    requires some { 0 < blank.parts }
+{
+    let mut source = StdSource::new(rt);
+    let mut site = FileSite::new(rt);
+    let mut steps = Steps::<L>::new(blank);
+    run(alloc, words, &mut source, &mut site, &mut steps)
+}
+
+fn main(rt: HostRuntime) -> ExitCode {
+    let status = match words(&rt) {
+        Ok(words) => run_on::<Brand>(rt.alloc(), &rt, &words, Blank::new(1)),
+        Err(_) => Status::Memory,
+    };
+    ExitCode::from(status.number())
+}

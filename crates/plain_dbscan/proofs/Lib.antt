@@ -1,0 +1,11 @@
+pub mod Chains
+pub mod Members
+pub mod LeastLabels
+pub mod CoresOf
+pub mod Lawful
+pub mod PointsOf
+pub mod Merging
+pub mod Places
+pub mod Bounds
+pub mod MarksOf
+pub mod Rows

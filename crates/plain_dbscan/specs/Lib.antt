@@ -1,0 +1,6 @@
+pub mod Chains
+pub mod Marks
+pub mod Laws
+pub mod Texts
+pub mod Points
+pub mod Merging

@@ -1,0 +1,17 @@
+//! What density clusters are, and clustering by all pairs.
+//!
+//! The definitions of `specs/` say what a neighbourhood, a core, a cluster, a mark and a report are.
+//! They look at all pairs of records. [`cluster_plain`] computes the marks from them and is promised
+//! to give exactly theirs, for every lawful metric; [`laws`] ties the marks to the relations that a
+//! reader believes. It stands on `vec_record`.
+#![tactic(auto)]
+
+mod cores;
+mod labels;
+pub mod laws;
+pub mod marks;
+pub mod plain;
+mod points;
+
+pub use marks::{Mark, Marks};
+pub use plain::cluster_plain;
