@@ -2,18 +2,18 @@
 use Rattle.std.proofs.Common.{◌≡◌, ℕ, ◌≤◌, Bool, true, cond, List, length, sym, ap, ◌∙◌, arith}
 use Rattle.std.specs.Prelude.{Option, Some, nat_le, codes}
 use Rattle.std.proofs.lemmas.Bool.Decides.{nat_tests}
-use Rattle.session_desk.specs.declared.words.Setting.{Setting}
 use Rattle.session_desk.specs.declared.status.Status as status
 use Rattle.session_desk.specs.declared.status.Status.TheVariants.{TooLong}
+use Rattle.session_desk.specs.Words.{Setting}
 use Rattle.session_desk.specs.Input.{rows_of}
 use Rattle.session_desk.specs.Answers.{Due, IsDue, due, report_on, answer_of, answer_to, input_limit}
 
-within : (s : Setting) (input : List ℕ) → length input ≤ input_limit → answer_to s input ≡ report_on s (rows_of input)
+within : (s : Setting) (input : List ℕ) → length input ≤ input_limit → answer_to s input ≡ report_on s (rows_of s.metric s.dim input)
 within s input few =
     let fits : nat_le (length input) input_limit ≡ true = grind (arith, nat_tests) in
-    ap (λ (b : Bool). cond b (report_on s (rows_of input)) (due TooLong (codes "session too long\n"))) fits
+    ap (λ (b : Bool). cond b (report_on s (rows_of s.metric s.dim input)) (due TooLong (codes "session too long\n"))) fits
 
-pub report_due : (words : Option Setting) (s : Setting) (left input seen : List ℕ) (st : status.Status) (text : List ℕ) → words ≡ Some s → left ≡ input → seen ≡ input → length input ≤ input_limit → IsDue st text (report_on s (rows_of seen)) → text ≡ (answer_of words left).text
+pub report_due : (words : Option Setting) (s : Setting) (left input seen : List ℕ) (st : status.Status) (text : List ℕ) → words ≡ Some s → left ≡ input → seen ≡ input → length input ≤ input_limit → IsDue st text (report_on s (rows_of s.metric s.dim seen)) → text ≡ (answer_of words left).text
 report_due words s left input seen st text is same looked few given =
-    let to : answer_of words left ≡ report_on s (rows_of input) = ap (λ (w : Option Setting). answer_of w left) is ∙ ap (answer_to s) same ∙ within s input few in
-    given.same_text ∙ ap (λ (l : List ℕ). (report_on s (rows_of l)).text) looked ∙ ap (λ (d : Due). d.text) (sym to)
+    let to : answer_of words left ≡ report_on s (rows_of s.metric s.dim input) = ap (λ (w : Option Setting). answer_of w left) is ∙ ap (answer_to s) same ∙ within s input few in
+    given.same_text ∙ ap (λ (l : List ℕ). (report_on s (rows_of s.metric s.dim l)).text) looked ∙ ap (λ (d : Due). d.text) (sym to)

@@ -1,4 +1,2 @@
-pub mod Cuts
-pub mod Places
-pub mod Fields
 pub mod Answered
+pub mod Batches

@@ -1,59 +1,53 @@
--- The records of an input.
-use Rattle.std.specs.Prelude.{ℕ, ◌+◌, ◌==◌, Bool, not, if◌then◌else◌, List, [], ◌∷◌, length, filter, Option, Some, None, Result, Ok, Err, codes}
-use Rattle.std.specs.List.{slice_split}
-use Rattle.std.specs.Option.{is_some}
-use Rattle.std.specs.Str.{bytes_eq}
+-- The records of an input, which is the body of one batch.
+use Rattle.std.specs.Prelude.{ℕ, ◌+◌, ◌==◌, nat_lt, Bool, if◌then◌else◌, List, length, Option, Some, None, Result, Ok, Err}
+use Rattle.std.specs.List.{slice_split, list_any}
 use Rattle.std.specs.FinMap as map
 use Rattle.vec_record.specs.Held.{Rows}
+use Rattle.vec_record.specs.declared.kind.MetricKind.{MetricKind}
+use Rattle.batch_text.specs.After.{after}
+use Rattle.batch_text.specs.Batch.{said_by}
+use Rattle.batch_text.specs.Records.{records_of}
+use Rattle.batch_text.specs.declared.read.ReadBatch.{ReadBatch}
+use Rattle.batch_text.specs.declared.faults.LineFault as line
+use Rattle.batch_text.specs.declared.faults.LineFault.TheVariants as line_fault
+use Rattle.batch_text.specs.declared.faults.CheckFault as check
+use Rattle.batch_text.specs.declared.faults.CheckFault.TheVariants as check_fault
 use Rattle.session_desk.specs.declared.input.Refusal.{Refusal}
-use Rattle.session_desk.specs.declared.input.Refusal.TheVariants.{Malformed, Repeated}
-use Rattle.session_desk.specs.Numbers.{number_of, number_between}
+use Rattle.session_desk.specs.declared.input.Refusal.TheVariants.{LongLine, TooManyRecords, Malformed, WrongLength, Repeated, Unknown, Full}
 
--- whether a byte ends a line, or a field
+-- whether a byte ends a line
 abbrev pub is_line_feed : ℕ → Bool
 is_line_feed b = b == 10
 
-abbrev pub is_comma : ℕ → Bool
-is_comma b = b == 44
+-- whether a line has over 4,096 bytes
+abbrev pub is_long : List ℕ → Bool
+is_long line = nat_lt 4096 (length line)
 
--- whether a line has a byte
-abbrev pub has_bytes : List ℕ → Bool
-has_bytes line = not (length line == 0)
+-- Whether a line of the input has over 4,096 bytes, a carriage return at its end counted.
+abbrev pub has_long_line : List ℕ → Bool
+has_long_line input = list_any is_long (slice_split is_line_feed input)
 
--- The lines of an input: what stands between its line feeds, without the empty pieces.
-abbrev pub lines_of : List ℕ → List (List ℕ)
-lines_of input = filter has_bytes (slice_split is_line_feed input)
+-- the records, or the refusal of the faulty one behind all changes
+abbrev pub unless_faulty : ℕ → Rows → Option line.LineFault → Result Rows Refusal
+unless_faulty place rows None = Ok rows
+unless_faulty place rows (Some line_fault.Malformed) = Err (Malformed place)
+unless_faulty place rows (Some line_fault.WrongLength) = Err (WrongLength place)
 
-abbrev pub pair_of : Option ℕ → Option ℕ → Option (ℕ × ℕ)
-pair_of None coordinate = None
-pair_of (Some n) None = None
-pair_of (Some n) (Some c) = Some (n, c)
+-- what follows where all changes apply, or the refusal of the first that can't; `after` never wants memory
+abbrev pub unless_refused : Result Rows check.CheckFault → (Rows → Result Rows Refusal) → Result Rows Refusal
+unless_refused (Ok rows) next = next rows
+unless_refused (Err (check_fault.Repeated place)) next = Err (Repeated place)
+unless_refused (Err (check_fault.Unknown place)) next = Err (Unknown place)
+unless_refused (Err (check_fault.Full place)) next = Err (Full place)
+unless_refused (Err check_fault.Memory) next = Err TooManyRecords
 
--- the number and the coordinate that three fields say
-abbrev pub record_of_fields : List (List ℕ) → Option (ℕ × ℕ)
-record_of_fields (sign ∷ number ∷ coordinate ∷ []) =
-    if bytes_eq sign (codes "+") then pair_of (number_between 1 4294967295 (number_of number)) (number_between 0 255 (number_of coordinate)) else None
-record_of_fields fields = None
+-- the records after a batch over none, or the refusal of its first faulty record, the lesser place first
+abbrev pub rows_after : ReadBatch → Result Rows Refusal
+rows_after b = unless_refused (after 200000 map.empty b.changes) (λ rows. unless_faulty (length b.changes + 1) rows b.fault)
 
--- The record of a line: `+`, a number of 1 to 4,294,967,295 and a coordinate of 0 to 255, with commas
--- between them; any other line is malformed.
-abbrev pub record_of : List ℕ → Option (ℕ × ℕ)
-record_of line = record_of_fields (slice_split is_comma line)
-
--- the records with one more, which stands at a place; a malformed or repeated one is faulty
-abbrev pub added : Rows → ℕ → Option (ℕ × ℕ) → Result Rows Refusal
-added rows place None = Err (Malformed place)
-added rows place (Some r) = if is_some (map.get rows r.0) then Err (Repeated place) else Ok (map.insert rows r.0 (r.1 ∷ []))
-
-abbrev pub and_then : Result Rows Refusal → (Rows → Result Rows Refusal) → Result Rows Refusal
-and_then (Ok rows) next = next rows
-and_then (Err r) next = Err r
-
--- the records after those of these lines, which stand at this place and on, or the first faulty record
-abbrev pub rows_after : Rows → ℕ → List (List ℕ) → Result Rows Refusal
-rows_after rows place [] = Ok rows
-rows_after rows place (line ∷ lines) = and_then (added rows place (record_of line)) (λ next. rows_after next (place + 1) lines)
-
--- The records of an input, or its first faulty record with its place, from 1.
-abbrev pub rows_of : List ℕ → Result Rows Refusal
-rows_of input = rows_after map.empty 1 (lines_of input)
+-- The records of an input, or why it is refused: a long line, too many records, or the first faulty record.
+abbrev pub rows_of : MetricKind → ℕ → List ℕ → Result Rows Refusal
+rows_of metric dim input =
+    if has_long_line input then Err LongLine
+    else if nat_lt 100000 (length (records_of input)) then Err TooManyRecords
+    else rows_after (said_by metric dim (records_of input))

@@ -1,7 +1,6 @@
 pub mod Statuses
-pub mod Numbers
 pub mod Words
+pub mod Settings
 pub mod Reading
 pub mod Input
-pub mod Pieces
 pub mod Answers

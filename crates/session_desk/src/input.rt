@@ -1,21 +1,68 @@
-ghost use Rattle.std.specs.Prelude.{◌≡◌, ◌≢◌, ◌≤◌, ◌<◌, ◌+◌, ◌-◌, ◌^◌, ◌∷◌, [], ℕ, length, IfOk, OnOk, Ok, Err, None};
+ghost use Rattle.std.specs.Prelude.{◌≡◌, ◌<◌, ◌≤◌, ◌+◌, ◌^◌, [], ℕ, length, IfOk, IsOk, OnOk, Ok, Err};
 ghost use Rattle.std.specs.FinMap as map;
-ghost use Rattle.std.specs.List.{slice_split, position};
-ghost use Rattle.vec_record.specs.Held.{Rows};
-ghost use Rattle.session_desk.specs.Input.{is_comma, record_of, added, rows_of};
-ghost use Rattle.session_desk.specs.Pieces.{CutsAtComma, Continues, StopsAt};
+ghost use Rattle.std.specs.List.{AllByRecursion};
+ghost use Rattle.vec_record.specs.Limits.{width_of};
+ghost use Rattle.batch_text.specs.After.{after};
+ghost use Rattle.batch_text.specs.Batch.{Fits, said_by};
+ghost use Rattle.batch_text.specs.Records.{records_of};
+ghost use Rattle.session_desk.specs.Input.{has_long_line as is_any_long, unless_refused, unless_faulty, rows_after, rows_of};
 ghost use Rattle.session_desk.specs.declared.input.Refusal.{Refusal as Refusals};
 
-use crate::numbers::parse_between;
 use crate::reading::INPUT_LIMIT;
+use batch_text::{CheckFault, LineFault, ReadBatch, apply_all, check_batch, read_batch};
 use std::alloc::{AllocError, Global};
-use vec_record::{Number, Records, Vector};
+use vec_record::{Changes, Params, Records};
 
-/// Why an input is refused, with the place of its first faulty record, from 1.
+/// The most bytes of a line.
+const LINE_LIMIT: usize = 4096;
+
+/// The most records of an input.
+const RECORD_LIMIT: u32 = 100_000;
+
+/// Why an input is refused. Places of records count from 1.
 #[derive(Clone, Copy, Debug, PartialEq, Eq)]
 pub enum Refusal {
+    LongLine,
+    TooManyRecords,
     Malformed(u32),
+    WrongLength(u32),
     Repeated(u32),
+    Unknown(u32),
+    Full(u32),
+}
+
+impl Refusal {
+    ghost use Rattle.std.specs.Prelude.{◌≡◌};
+    ghost use Rattle.session_desk.specs.Answers.{refusal_number, refusal_place};
+
+    /// The number that the refusal is said with.
+    pub fn number(self) -> u32
+        ensures { result ≡ refusal_number self }
+    {
+        match self {
+            Refusal::LongLine => 18,
+            Refusal::TooManyRecords => 16,
+            Refusal::Malformed(_) => 11,
+            Refusal::WrongLength(_) => 12,
+            Refusal::Repeated(_) => 13,
+            Refusal::Unknown(_) => 14,
+            Refusal::Full(_) => 15,
+        }
+    }
+
+    /// The place of the record that is refused.
+    pub fn place(self) -> Option<u32>
+        ensures { result ≡ refusal_place self }
+    {
+        match self {
+            Refusal::LongLine | Refusal::TooManyRecords => None,
+            Refusal::Malformed(place)
+            | Refusal::WrongLength(place)
+            | Refusal::Repeated(place)
+            | Refusal::Unknown(place)
+            | Refusal::Full(place) => Some(place),
+        }
+    }
 }
 
 /// Why an input gave no records.
@@ -25,112 +72,80 @@ pub enum InputFault {
     Memory,
 }
 
-/// Where the first comma stands.
-fn find_comma(bytes: &[u8]) -> Option<usize>
-    ensures { result ≡ position is_comma bytes.now }
+/// Whether a line has too many bytes, a carriage return at its end counted.
+fn has_long_line(input: &[u8]) -> bool
+    ensures { result ≡ is_any_long input.now }
 {
-    bytes.iter().position(|b| *b == b',')
+    input
+        .split(|b| *b == b'\n')
+        .any(|line| line.len() > LINE_LIMIT)
 }
 
-/// The bytes before the first comma and those behind it, or `None` where there is no comma.
-fn cut_at_comma(bytes: &[u8]) -> Option<(&[u8], &[u8])>
-    ensures { CutsAtComma bytes.now result }
-{
-    match find_comma(bytes) {
-        None => None,
-        Some(i) => Some((&bytes[..i], &bytes[i + 1..])),
-    }
-}
-
-/// The number and the coordinate of a record `+,NUMBER,COORDINATE`.
-fn parse_record(line: &[u8]) -> Option<(Number, u32)>
-    ensures { result ≡ record_of line.now }
-{
-    let (sign, rest) = cut_at_comma(line)?;
-    let (number, coordinate) = cut_at_comma(rest)?;
-    if cut_at_comma(coordinate).is_some() {
-        return None;
-    }
-    if sign != b"+".as_slice() {
-        return None;
-    }
-    let number = parse_between(number, 1, 4_294_967_295)?;
-    let coordinate = parse_between(coordinate, 0, 255)?;
-    Some((number, coordinate))
-}
-
-/// Adds the record of a line, which stands at a place.
-fn add_record(
+/// Checks that changes apply over no records.
+fn check(
     alloc: Global,
-    records: &mut Records,
-    place: u32,
-    line: &[u8],
+    records: &Records,
+    params: &Params,
+    changes: &Changes,
 ) -> Result<(), InputFault>
-    requires { records.old.width ≡ 1 }
-    ensures width { records.new.width ≡ 1 }
-    ensures ok { IfOk result (λ _. added records.old.vectors place (record_of line.now) ≡ Ok records.new.vectors) }
-    ensures refused { (r : Refusals) → result ≡ Err (InputFault.Refused r) → added records.old.vectors place (record_of line.now) ≡ Err r }
+    requires few { length changes.now < 2 ^ 32 }
+    ensures ok { OnOk result (IsOk (after params.now.cap records.now.vectors changes.now)) }
+    ensures refused { (r : Refusals) → result ≡ Err (InputFault.Refused r) → (next : _) → unless_refused (after params.now.cap records.now.vectors changes.now) next ≡ Err r }
 {
-    let Some((number, coordinate)) = parse_record(line) else {
-        return Err(InputFault::Refused(Refusal::Malformed(place)));
-    };
-    if records.get(number).is_some() {
-        return Err(InputFault::Refused(Refusal::Repeated(place)));
-    }
-    match insert(alloc, records, number, coordinate as u8) {
+    match check_batch(alloc, records, params, changes) {
         Ok(()) => Ok(()),
+        Err(CheckFault::Repeated { place }) => Err(InputFault::Refused(Refusal::Repeated(place))),
+        Err(CheckFault::Unknown { place }) => Err(InputFault::Refused(Refusal::Unknown(place))),
+        Err(CheckFault::Full { place }) => Err(InputFault::Refused(Refusal::Full(place))),
+        Err(CheckFault::Memory) => Err(InputFault::Memory),
+    }
+}
+
+/// The refusal of a faulty record at a place.
+fn refusal_at(fault: LineFault, place: u32) -> Refusal
+    ensures { (rows : _) → unless_faulty place rows (Some fault) ≡ Err result }
+{
+    match fault {
+        LineFault::Malformed => Refusal::Malformed(place),
+        LineFault::WrongLength => Refusal::WrongLength(place),
+    }
+}
+
+/// The records after a batch over none.
+fn records_after(alloc: Global, params: &Params, batch: ReadBatch) -> Result<Records, InputFault>
+    requires cap { params.now.cap ≡ 200000 }
+    requires few { length batch.changes ≤ 100000 }
+    requires fits { AllByRecursion (Fits (width_of params.now.metric params.now.dim)) batch.changes }
+    ensures ok { IfOk result (λ records. rows_after batch ≡ Ok records.vectors) }
+    ensures refused { (r : Refusals) → result ≡ Err (InputFault.Refused r) → rows_after batch ≡ Err r }
+{
+    let mut records = Records::new(alloc, params.width());
+    check(alloc, &records, params, &batch.changes)?;
+    if let Some(fault) = batch.fault {
+        let place = batch.changes.len() as u32 + 1;
+        return Err(InputFault::Refused(refusal_at(fault, place)));
+    }
+    match apply_all(&mut records, params, batch.changes) {
+        Ok(()) => Ok(records),
         Err(_) => Err(InputFault::Memory),
     }
 }
 
-/// Inserts a vector of one byte.
-fn insert(
-    alloc: Global,
-    records: &mut Records,
-    number: Number,
-    coordinate: u8,
-) -> Result<(), AllocError>
-    requires number { number ≢ 0 }
-    requires absent { map.get records.old.vectors number ≡ None }
-    requires width { records.old.width ≡ 1 }
-    ensures width { records.new.width ≡ 1 }
-    ensures rows { OnOk result (records.new.vectors ≡ map.insert records.old.vectors number (coordinate ∷ [])) }
+/// The records of an input, which is read as the body of one batch over no records.
+pub fn read_records(alloc: Global, params: &Params, input: &[u8]) -> Result<Records, InputFault>
+    requires cap { params.now.cap ≡ 200000 }
+    requires few { length input.now ≤ INPUT_LIMIT }
+    ensures ok { IfOk result (λ records. rows_of params.now.metric params.now.dim input.now ≡ Ok records.vectors) }
+    ensures refused { (r : Refusals) → result ≡ Err (InputFault.Refused r) → rows_of params.now.metric params.now.dim input.now ≡ Err r }
 {
-    let vector = Vector::from_slice(alloc, &[coordinate])?;
-    records.insert(number, vector)
-}
-
-/// Takes one piece of the input: a record with its place, or nothing where it has no bytes.
-fn take_piece(
-    alloc: Global,
-    records: &mut Records,
-    place: &mut u32,
-    piece: &[u8],
-) -> Result<(), InputFault>
-    requires width { records.old.width ≡ 1 }
-    requires room { place.old < 2 ^ 32 - 1 }
-    ensures width { records.new.width ≡ 1 }
-    ensures place { place.new ≤ place.old + 1 }
-    ensures ok { IfOk result (λ _. Continues records.old.vectors place.old piece.now records.new.vectors place.new) }
-    ensures refused { (r : Refusals) → result ≡ Err (InputFault.Refused r) → StopsAt records.old.vectors place.old piece.now r }
-{
-    if piece.is_empty() {
-        return Ok(());
+    if has_long_line(input) {
+        return Err(InputFault::Refused(Refusal::LongLine));
     }
-    *place += 1;
-    add_record(alloc, records, *place, piece)
-}
-
-/// The records of an input: one for each line that isn't empty.
-pub fn read_records(alloc: Global, input: &[u8]) -> Result<Records, InputFault>
-    requires { length input.now ≤ INPUT_LIMIT }
-    ensures ok { IfOk result (λ records. rows_of input.now ≡ Ok records.vectors) }
-    ensures refused { (r : Refusals) → result ≡ Err (InputFault.Refused r) → rows_of input.now ≡ Err r }
-{
-    let mut records = Records::new(alloc, 1);
-    let mut place = 0u32;
-    for piece in input.split(|b| *b == b'\n') {
-        take_piece(alloc, &mut records, &mut place, piece)?;
+    let Ok(batch) = read_batch(alloc, input, params) else {
+        return Err(InputFault::Memory);
+    };
+    if batch.total > RECORD_LIMIT {
+        return Err(InputFault::Refused(Refusal::TooManyRecords));
     }
-    Ok(records)
+    records_after(alloc, params, batch)
 }

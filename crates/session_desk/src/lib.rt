@@ -5,7 +5,6 @@
 #![tactic(auto)]
 
 mod input;
-mod numbers;
 mod once;
 mod reading;
 pub mod status;

@@ -129,7 +129,7 @@ fn one_cluster(alloc: Global, count: u32) -> Result<String, AllocError> {
 /// Words and an input, and how a run on them ends.
 struct Row {
     words: &'static str,
-    input: &'static str,
+    input: &'static [u8],
     status: Status,
     said: &'static str,
 }
@@ -137,163 +137,277 @@ struct Row {
 const ROWS: &[Row] = &[
     Row {
         words: "once l1 1 1 2",
-        input: "+,1,0\n+,2,1\n+,3,9\n",
+        input: b"+,1,0\n+,2,1\n+,3,9\n",
         status: Status::Fine,
         said: "1 core 1\n2 core 1\n3 noise\nrecords 3 cores 2 borders 0 noise 1 clusters 1\n",
     },
     Row {
         words: "once l1 1 0 1",
-        input: "+,7,5\n+,3,5\n",
+        input: b"+,7,5\n+,3,5\n",
         status: Status::Fine,
         said: "3 core 3\n7 core 3\nrecords 2 cores 2 borders 0 noise 0 clusters 1\n",
     },
     Row {
         words: "once l1 1 1 4",
-        input: "+,1,8\n+,2,8\n+,3,9\n+,4,11\n+,5,12\n+,6,12\n+,7,10\n",
+        input: b"+,1,8\n+,2,8\n+,3,9\n+,4,11\n+,5,12\n+,6,12\n+,7,10\n",
         status: Status::Fine,
         said: "1 border 3\n2 border 3\n3 core 3\n4 core 4\n5 border 4\n6 border 4\n7 border 3\nrecords 7 cores 2 borders 5 noise 0 clusters 2\n",
     },
     Row {
+        words: "once max 2 3 2",
+        input: b"+,1,0,0\n+,2,3,3\n+,3,4,7\n",
+        status: Status::Fine,
+        said: "1 core 1\n2 core 1\n3 noise\nrecords 3 cores 2 borders 0 noise 1 clusters 1\n",
+    },
+    Row {
+        words: "once hamming 9 1 2",
+        input: b"+,1,000000000\n+,2,000000001\n+,3,110000000\n",
+        status: Status::Fine,
+        said: "1 core 1\n2 core 1\n3 noise\nrecords 3 cores 2 borders 0 noise 1 clusters 1\n",
+    },
+    Row {
+        words: "once hamming 9 1 2",
+        input: b"+,1,000000000\n+,2,0000,00001\n+,3,110000000\n",
+        status: Status::Fine,
+        said: "1 core 1\n2 core 1\n3 noise\nrecords 3 cores 2 borders 0 noise 1 clusters 1\n",
+    },
+    Row {
+        words: "once l1 2 1 2",
+        input: b"+,1,0,0\n+,2,0,1\n",
+        status: Status::Fine,
+        said: "1 core 1\n2 core 1\nrecords 2 cores 2 borders 0 noise 0 clusters 1\n",
+    },
+    Row {
         words: "once l1 01 0000000001 2",
-        input: "\n\n+,0000000001,0\n\n+,2,001",
+        input: b"\n\n+,0000000001,0\n\n+,2,001",
         status: Status::Fine,
         said: "1 core 1\n2 core 1\nrecords 2 cores 2 borders 0 noise 0 clusters 1\n",
     },
     Row {
         words: "once l1 1 1 2",
-        input: "+,4294967295,1\n",
+        input: b"+,4294967295,1\n",
         status: Status::Fine,
         said: "4294967295 noise\nrecords 1 cores 0 borders 0 noise 1 clusters 0\n",
     },
     Row {
         words: "once l1 1 65535 65535",
-        input: "+,1,0\n",
+        input: b"+,1,0\n",
         status: Status::Fine,
         said: "1 noise\nrecords 1 cores 0 borders 0 noise 1 clusters 0\n",
     },
     Row {
         words: "once l1 1 1 2",
-        input: "",
+        input: b"",
         status: Status::Fine,
         said: "records 0 cores 0 borders 0 noise 0 clusters 0\n",
     },
     Row {
         words: "once l1 1 1 2",
-        input: "+,1,0\n-,1\n",
+        input: b"+,1,0\n-,1\n",
+        status: Status::Fine,
+        said: "records 0 cores 0 borders 0 noise 0 clusters 0\n",
+    },
+    Row {
+        words: "once l1 1 0 1",
+        input: b"+,5,0\n-,5\n+,5,9\n",
+        status: Status::Fine,
+        said: "5 core 5\nrecords 1 cores 1 borders 0 noise 0 clusters 1\n",
+    },
+    Row {
+        words: "once l1 1 1 2",
+        input: b"\"+\",\"1\",\"0\"\r\n",
+        status: Status::Fine,
+        said: "1 noise\nrecords 1 cores 0 borders 0 noise 1 clusters 0\n",
+    },
+    Row {
+        words: "once l1 1 1 2",
+        input: b"\xef\xbb\xbf+,1,0\n",
+        status: Status::Fine,
+        said: "1 noise\nrecords 1 cores 0 borders 0 noise 1 clusters 0\n",
+    },
+    Row {
+        words: "once l1 1 1 2",
+        input: b"+,1,0\r+,2,1\r",
+        status: Status::Fine,
+        said: "1 core 1\n2 core 1\nrecords 2 cores 2 borders 0 noise 0 clusters 1\n",
+    },
+    Row {
+        words: "once l1 1 1 2",
+        input: b"\r\n\n+,1,0\n\r\n+,2,1\n",
+        status: Status::Fine,
+        said: "1 core 1\n2 core 1\nrecords 2 cores 2 borders 0 noise 0 clusters 1\n",
+    },
+    Row {
+        words: "once l1 1 1 2",
+        input: b"+,1,0\n+,\"2\"\"\",1\n",
         status: Status::Refused,
         said: "refused 11 at 2\n",
     },
     Row {
         words: "once l1 1 1 2",
-        input: "\n+,1,0\n\n+,2,0\n+,1,9\n*",
+        input: b"+,1,0\n+,2\"2,1\n",
+        status: Status::Refused,
+        said: "refused 11 at 2\n",
+    },
+    Row {
+        words: "once l1 1 1 2",
+        input: b"+,1,0\n\"+,2,1\n+,1,0\n",
+        status: Status::Refused,
+        said: "refused 11 at 2\n",
+    },
+    Row {
+        words: "once l1 1 1 2",
+        input: b"+,1,0\n+,2,0\n+,1,9\n*",
         status: Status::Refused,
         said: "refused 13 at 3\n",
     },
     Row {
         words: "once l1 1 1 2",
-        input: "+,1,0\n+,1,256\n",
+        input: b"+,1,0\n*\n+,1,9\n",
         status: Status::Refused,
         said: "refused 11 at 2\n",
     },
     Row {
         words: "once l1 1 1 2",
-        input: "+,0,1\n",
+        input: b"+,4,256,1\n",
         status: Status::Refused,
         said: "refused 11 at 1\n",
     },
     Row {
         words: "once l1 1 1 2",
-        input: "+,4294967296,1\n",
+        input: b"-,4,1\n",
         status: Status::Refused,
         said: "refused 11 at 1\n",
     },
     Row {
         words: "once l1 1 1 2",
-        input: "+,4,256,1\n",
+        input: b"+,0,1\n",
         status: Status::Refused,
         said: "refused 11 at 1\n",
     },
     Row {
         words: "once l1 1 1 2",
-        input: "*,4,1\n",
+        input: b"+,4294967296,1\n",
         status: Status::Refused,
         said: "refused 11 at 1\n",
     },
     Row {
         words: "once l1 1 1 2",
-        input: "+,4,\n",
+        input: b"*,4,1\n",
         status: Status::Refused,
         said: "refused 11 at 1\n",
     },
     Row {
         words: "once l1 1 1 2",
-        input: "+,4\n",
+        input: b"+,4,\n",
         status: Status::Refused,
         said: "refused 11 at 1\n",
     },
     Row {
         words: "once l1 1 1 2",
-        input: "+,4,1\r\n",
+        input: b"+,4,\xff\n",
         status: Status::Refused,
         said: "refused 11 at 1\n",
     },
     Row {
         words: "once l1 1 1 2",
-        input: "\"+\",4,1\n",
+        input: b"+,00000000001,1\n",
         status: Status::Refused,
         said: "refused 11 at 1\n",
     },
     Row {
         words: "once l1 1 1 2",
-        input: "+,00000000001,1\n",
+        input: b"+,4\n",
+        status: Status::Refused,
+        said: "refused 12 at 1\n",
+    },
+    Row {
+        words: "once l1 1 1 2",
+        input: b"+,4,1,1\n",
+        status: Status::Refused,
+        said: "refused 12 at 1\n",
+    },
+    Row {
+        words: "once hamming 9 1 2",
+        input: b"+,1,0000,0000\n",
+        status: Status::Refused,
+        said: "refused 12 at 1\n",
+    },
+    Row {
+        words: "once hamming 9 1 2",
+        input: b"+,1,00000000,2\n",
         status: Status::Refused,
         said: "refused 11 at 1\n",
+    },
+    Row {
+        words: "once l1 1 1 2",
+        input: b"-,4\n",
+        status: Status::Refused,
+        said: "refused 14 at 1\n",
     },
     Row {
         words: "",
-        input: "+,1,0\n",
+        input: b"+,1,0\n",
         status: Status::Words,
         said: USAGE,
     },
     Row {
         words: "serve now",
-        input: "+,1,0\n",
+        input: b"+,1,0\n",
         status: Status::Words,
         said: USAGE,
     },
     Row {
         words: "once l1 0 1 2",
-        input: "+,1,0\n",
+        input: b"+,1,0\n",
         status: Status::Words,
         said: USAGE,
     },
     Row {
-        words: "once l1 2 1 2",
-        input: "+,1,0\n",
+        words: "once l1 257 1 2",
+        input: b"+,1,0\n",
+        status: Status::Words,
+        said: USAGE,
+    },
+    Row {
+        words: "once hamming 2049 1 2",
+        input: b"+,1,0\n",
         status: Status::Words,
         said: USAGE,
     },
     Row {
         words: "once l1 1 65536 2",
-        input: "+,1,0\n",
+        input: b"+,1,0\n",
         status: Status::Words,
         said: USAGE,
     },
     Row {
         words: "once l1 1 1 0",
-        input: "+,1,0\n",
+        input: b"+,1,0\n",
         status: Status::Words,
         said: USAGE,
     },
     Row {
-        words: "once max 1 1 2",
-        input: "+,1,0\n",
+        words: "once l1 1 1 65536",
+        input: b"+,1,0\n",
+        status: Status::Words,
+        said: USAGE,
+    },
+    Row {
+        words: "once l2 1 1 2",
+        input: b"+,1,0\n",
         status: Status::Words,
         said: USAGE,
     },
     Row {
         words: "once l1 1 1 2 3",
-        input: "+,1,0\n",
+        input: b"+,1,0\n",
+        status: Status::Words,
+        said: USAGE,
+    },
+    Row {
+        words: "once l1 1 -1 2",
+        input: b"+,1,0\n",
         status: Status::Words,
         said: USAGE,
     },
@@ -304,13 +418,13 @@ const ROWS: &[Row] = &[
 fn rows(rt: HostRuntime) -> Result<(), Fail> {
     for row in ROWS {
         for piece in [1usize, 2, 7, 4096] {
-            let input = bytes_of(rt.alloc(), row.input.as_bytes())?;
+            let input = bytes_of(rt.alloc(), row.input)?;
             let end = run_on(rt.alloc(), row.words, input, piece, (0, 0))?;
-            assert_eq!(rt; end.status, row.status, "{}: {}", row.words, row.input);
+            assert_eq!(rt; end.status, row.status, "{}: {:?}", row.words, row.input);
             assert_eq!(rt;
                 end.said.as_slice(),
                 row.said.as_bytes(),
-                "{}: {}",
+                "{}: {:?}",
                 row.words,
                 row.input
             );
@@ -324,12 +438,12 @@ fn rows(rt: HostRuntime) -> Result<(), Fail> {
 #[test]
 fn failing_says(rt: HostRuntime) -> Result<(), Fail> {
     for row in ROWS {
-        let input = bytes_of(rt.alloc(), row.input.as_bytes())?;
+        let input = bytes_of(rt.alloc(), row.input)?;
         let end = run_on(rt.alloc(), row.words, input, 7, (0, 1))?;
         assert_eq!(rt;
             end.status,
             Status::SiteFault,
-            "{}: {}",
+            "{}: {:?}",
             row.words,
             row.input
         );
@@ -391,30 +505,70 @@ fn whole_clusters(rt: HostRuntime) -> Result<(), Fail> {
     Ok(())
 }
 
-/// So many line feeds.
-fn line_feeds(alloc: Global, count: u32) -> Result<Bytes, AllocError> {
+/// So many times the same line.
+fn repeated(alloc: Global, line: &[u8], count: u32) -> Result<Bytes, AllocError> {
     let mut bytes = Bytes::new(alloc);
     for _ in 0..count {
-        bytes.push(b'\n')?;
+        bytes.append(line)?;
     }
     Ok(bytes)
 }
 
-/// An input of as many bytes as there may be is read, one of a byte more is not.
+/// An input of as many bytes as there may be is read, one of a byte more is not; a batch of as many
+/// records as there may be is judged, one of a record more is not.
 #[test]
-fn longest_input(rt: HostRuntime) -> Result<(), Fail> {
-    for (count, status, said) in [
+fn longest_inputs(rt: HostRuntime) -> Result<(), Fail> {
+    for (line, count, status, said) in [
         (
+            b"\n".as_slice(),
             67_108_864u32,
             Status::Fine,
             "records 0 cores 0 borders 0 noise 0 clusters 0\n",
         ),
-        (67_108_865, Status::TooLong, "session too long\n"),
+        (
+            b"\n".as_slice(),
+            67_108_865,
+            Status::TooLong,
+            "session too long\n",
+        ),
+        (
+            b"-,1\n".as_slice(),
+            100_000,
+            Status::Refused,
+            "refused 14 at 1\n",
+        ),
+        (
+            b"-,1\n".as_slice(),
+            100_001,
+            Status::Refused,
+            "refused 16\n",
+        ),
     ] {
-        let input = line_feeds(rt.alloc(), count)?;
+        let input = repeated(rt.alloc(), line, count)?;
         let end = run_on(rt.alloc(), "once l1 1 1 2", input, 4096, (0, 0))?;
-        assert_eq!(rt; end.status, status);
-        assert_eq!(rt; end.said.as_slice(), said.as_bytes());
+        assert_eq!(rt; end.status, status, "{count}");
+        assert_eq!(rt; end.said.as_slice(), said.as_bytes(), "{count}");
+    }
+    Ok(())
+}
+
+/// A line of 4,096 bytes is judged as a record; one of a byte more is refused, before too many records
+/// are, and its CR counts.
+#[test]
+fn longest_lines(rt: HostRuntime) -> Result<(), Fail> {
+    for (letters, last, count, said) in [
+        (4096u32, b"".as_slice(), 0u32, "refused 11 at 1\n"),
+        (4096, b"\n".as_slice(), 0, "refused 11 at 1\n"),
+        (4096, b"\r\n".as_slice(), 0, "refused 18\n"),
+        (4097, b"".as_slice(), 0, "refused 18\n"),
+        (4097, b"\n".as_slice(), 100_001, "refused 18\n"),
+    ] {
+        let mut input = repeated(rt.alloc(), b"-,1\n", count)?;
+        input.append(repeated(rt.alloc(), b"x", letters)?.as_slice())?;
+        input.append(last)?;
+        let end = run_on(rt.alloc(), "once l1 1 1 2", input, 4096, (0, 0))?;
+        assert_eq!(rt; end.status, Status::Refused, "{letters}");
+        assert_eq!(rt; end.said.as_slice(), said.as_bytes(), "{letters}");
     }
     Ok(())
 }

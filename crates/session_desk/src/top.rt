@@ -67,7 +67,7 @@ pub fn run<S: Source, T: Site, L: Ledger>(
     ensures source_later { S.faults source.old ≤ S.faults source.new }
     ensures site_later { T.faults site.old ≤ T.faults site.new }
 {
-    let Some(setting) = read_words(words) else {
+    let Some(params) = read_words(words) else {
         return say(site, Status::Words, USAGE);
     };
     let input = match read_all(alloc, source) {
@@ -76,7 +76,7 @@ pub fn run<S: Source, T: Site, L: Ledger>(
         Err(ReadFault::TooMuch) => return say(site, Status::TooLong, b"session too long\n"),
         Err(ReadFault::Memory) => return Status::Memory,
     };
-    match report(alloc, setting, &input, steps) {
+    match report(alloc, &params, &input, steps) {
         Ok(answer) => say(site, answer.status, answer.text.as_slice()),
         Err(_) => Status::Memory,
     }

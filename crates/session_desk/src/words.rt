@@ -1,38 +1,59 @@
 ghost use Rattle.std.specs.Prelude.{◌≡◌, map, string_bytes};
-ghost use Rattle.session_desk.specs.Words.{setting, setting_of};
+ghost use Rattle.session_desk.specs.Words.{metric_named as named, number_in, checked, setting_of};
+ghost use Rattle.session_desk.specs.Settings.{IsSetting};
 
-use crate::numbers::parse_between;
+use batch_text::number::number_within;
+use vec_record::{MetricKind, Params};
 
-/// How far a neighbour may be, and how many neighbours make a core.
-#[derive(Clone, Copy, Debug, PartialEq, Eq)]
-pub struct Setting {
-    pub eps: u32,
-    pub minpts: u32,
+/// The most records of a store, and of one that `once` clusters.
+const CAP: u32 = 200_000;
+
+/// The metric of a name.
+fn metric_named(word: &str) -> Option<MetricKind>
+    ensures { result ≡ named word.now }
+{
+    match word {
+        "l1" => Some(MetricKind::L1),
+        "max" => Some(MetricKind::Max),
+        "hamming" => Some(MetricKind::Hamming),
+        _ => None,
+    }
 }
 
-/// The setting that the words `once l1 1 EPS MINPTS` give, or `None` for any other words.
-pub fn read_words(words: &[String]) -> Option<Setting>
-    ensures { result ≡ setting_of (map string_bytes words.now) }
+/// The parameters of these values, where all are there and within their limits.
+fn make_params(
+    metric: Option<MetricKind>,
+    dim: Option<u32>,
+    eps: Option<u32>,
+    minpts: Option<u32>,
+) -> Option<Params>
+    ensures { IsSetting result (checked metric dim eps minpts) }
+{
+    Params::check(metric?, dim?, eps?, minpts?, CAP)
+}
+
+/// The number that a word says.
+fn number(word: &str) -> Option<u32>
+    ensures { result ≡ number_in word.now }
+{
+    number_within(word.as_bytes(), 0, u32::MAX)
+}
+
+/// The parameters that the words `once METRIC DIM EPS MINPTS` give, or `None` for any other words.
+pub fn read_words(words: &[String]) -> Option<Params>
+    ensures { IsSetting result (setting_of (map string_bytes words.now)) }
 {
     let [once, metric, dim, eps, minpts] = words else {
         return None;
     };
-    if once.as_str() != "once" || metric.as_str() != "l1" {
+    if once.as_str() != "once" {
         return None;
     }
-    let dim = parse_between(dim.as_bytes(), 1, 1);
-    let eps = parse_between(eps.as_bytes(), 0, 65_535);
-    let minpts = parse_between(minpts.as_bytes(), 1, 65_535);
-    make_setting(dim, eps, minpts)
-}
-
-/// The setting, where all three numbers are there.
-fn make_setting(dim: Option<u32>, eps: Option<u32>, minpts: Option<u32>) -> Option<Setting>
-    ensures { result ≡ setting dim eps minpts }
-{
-    dim?;
-    Some(Setting {
-        eps: eps?,
-        minpts: minpts?,
-    })
+    let metric = metric_named(metric.as_str());
+    make_params(
+        metric,
+        number(dim.as_str()),
+        number(eps.as_str()),
+        number(minpts.as_str()),
+    )
 }

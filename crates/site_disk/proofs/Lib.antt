@@ -3,3 +3,7 @@ mod Pieces
 mod Replays
 mod Calls
 mod Writing
+mod Picks
+mod Runs
+mod Within
+mod Written

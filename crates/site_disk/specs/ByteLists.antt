@@ -1,4 +1,5 @@
 -- Lists of bytes, and what parts of them, and a write into them, are.
+-- Lemmas alone: the law of `MemSite` cites them, and what a law cites stands in specs/.
 use Rattle.std.proofs.Common.{◌≡◌, ℕ, ◌%◌, ◌<◌, ◌+◌, ◌-◌, List, [], ◌∷◌, ◌++◌, length, take, drop, get_or, refl, arith}
 use Rattle.std.specs.Prelude.{replicate, zero, suc}
 use Rattle.vec_record.specs.Vectors.{AreBytes}

@@ -1,4 +1,5 @@
 -- The clock of a site in memory: the moments since now, what is read, and that images are bytes.
+-- Lemmas alone: the law of `MemSite` cites them, and what a law cites stands in specs/.
 use Rattle.std.proofs.Common.{◌≡◌, ◌⊎◌, inl, inr, ℕ, ◌≤◌, List, [], ◌∷◌, length, refl, sym, subst, arith}
 use Rattle.vec_record.specs.Vectors.{AreBytes}
 use Rattle.site_disk.specs.declared.mem_site.Call.{Call}

@@ -7,7 +7,11 @@ pub mod Silent
 pub mod Counts
 pub mod Input
 pub mod Replay
+pub mod Picks
 pub mod Memory
 pub mod ByteLists
 pub mod Puts
 pub mod Clock
+pub mod Written
+pub mod Often
+pub mod Runs

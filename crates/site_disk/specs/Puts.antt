@@ -1,4 +1,5 @@
 -- What stands in a file after a write.
+-- Lemmas alone: the law of `MemSite` cites them, and what a law cites stands in specs/.
 use Rattle.std.proofs.Common.{◌≡◌, inl, inr, ℕ, ◌+◌, ◌-◌, ◌<◌, ◌≤◌, max, List, ◌∷◌, ◌++◌, length, take, drop, get_or, refl, sym, ◌∙◌, ap, arith, length-append, length-drop}
 use Rattle.std.proofs.lemmas.List.{get_or-take, get_or-drop, get_or-append_right, get_or_append_left, get_or-replicate, get_or_past, length-replicate, length-take-le}
 use Rattle.std.proofs.lemmas.Bool.{cases_lt}

@@ -1,5 +1,5 @@
 -- A site in memory: what it held at first and its list of calls give all that it tells.
-use Rattle.std.specs.Prelude.{◌≡◌, ◌⊎◌, ℕ, ◌-◌, ◌/◌, ◌%◌, ◌≤◌, List, [], ◌∷◌, ◌++◌, length, take, map, replicate}
+use Rattle.std.specs.Prelude.{◌≡◌, ◌⊎◌, ℕ, ◌%◌, ◌≤◌, List, [], ◌∷◌, ◌++◌, length, take, map}
 use Rattle.site_disk.specs.declared.mem_site.Call.{Call}
 use Rattle.site_disk.specs.declared.mem_site.Call.TheVariants.{Write, Say, Sync}
 use Rattle.site_disk.specs.Disk.{put, IsImage}
@@ -58,14 +58,3 @@ told_state start events = record {
   moment = length events;
   since = λ t s c. Now (replay start events) s c ⊎ Had start events t s c;
 }
-
--- the first half of the bytes, rounded down, and 0xA5 in place of the rest
-abbrev pub half : List ℕ → List ℕ
-half bytes = take (length bytes / 2) bytes ++ replicate (length bytes - length bytes / 2) 165
-
--- the image that keeps the first half of each write since the last sync
-abbrev pub halved : List ℕ → List Call → List ℕ
-halved start [] = as_bytes start
-halved start (Write at bytes ∷ es) = put at (half (as_bytes bytes)) (halved start es)
-halved start (Say bytes ∷ es) = halved start es
-halved start (Sync ∷ es) = (replay start es).content

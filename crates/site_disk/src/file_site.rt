@@ -66,17 +66,20 @@ fn length_of(file: &File) -> io::Result<u64>
     Ok(len)
 }
 
-/// Reads once at an offset. Nothing stands at an offset that no file reaches.
+/// Reads once at an offset, again where a signal cut in. Nothing stands at an offset that no file reaches.
 fn read_once(file: &File, at: u64, into: &mut [u8]) -> io::Result<usize>
     ensures { IfOk result (λ n. n ≤ length into.new) }
 {
     if at > MAX_LEN {
         return Ok(0);
     }
-    match file.read_at(into, at) {
-        Err(error) if error.kind() == ErrorKind::Interrupted => file.read_at(into, at),
-        answer => answer,
+    for _ in 0..u64::MAX {
+        match file.read_at(into, at) {
+            Err(error) if error.kind() == ErrorKind::Interrupted => {}
+            answer => return answer,
+        }
     }
+    Err(ErrorKind::TimedOut.into())
 }
 
 /// Fills a piece from the file, and with zeros past its end.
@@ -135,7 +138,9 @@ fn say_all(rt: &HostRuntime, bytes: &[u8]) -> io::Result<()> {
 
 impl FileSite {
     /// Opens nothing and makes nothing yet.
-    pub fn new(rt: &HostRuntime) -> FileSite {
+    pub fn new(rt: &HostRuntime) -> FileSite
+        ensures { result.faults ≡ 0 }
+    {
         FileSite {
             rt: *rt,
             file: None,

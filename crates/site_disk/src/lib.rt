@@ -6,13 +6,19 @@
 //! proof; `StdSource` and `FileSite` are the trusted edge.
 #![tactic(auto)]
 
+pub mod callers;
 mod counts;
+mod crash;
+mod file_bytes;
 pub mod file_site;
+pub mod laws;
 pub mod mem_site;
 pub mod mem_source;
 pub mod site;
 pub mod source;
 pub mod std_source;
+#[cfg(test)]
+mod tests;
 
 pub use file_site::FileSite;
 pub use mem_site::MemSite;

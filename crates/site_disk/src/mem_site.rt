@@ -1,14 +1,17 @@
-ghost use Rattle.std.specs.Prelude.{◌≡◌, ◌≤◌, ◌<◌, ◌+◌, ◌-◌, ◌^◌, [], ◌∷◌, ◌++◌, ℕ, length, take, drop, reverse, get_or, true, vec_len, vec_capacity, OnOk, OnErr, IfOk, IsErr};
+ghost use Rattle.std.specs.Prelude.{List, ◌≡◌, ◌≤◌, ◌<◌, ◌+◌, ◌-◌, ◌^◌, [], ◌∷◌, ◌++◌, ℕ, length, take, drop, reverse, get_or, true, vec_len, vec_capacity, OnOk, OnErr, IfOk, IsErr};
 ghost use Rattle.vec_record.specs.Vectors.{AreBytes};
 ghost use Rattle.site_disk.specs.Causes.{HasCause};
 ghost use Rattle.site_disk.specs.Counts.{rise};
 ghost use Rattle.site_disk.specs.Disk.{put, zeros};
 ghost use Rattle.site_disk.specs.Calls.{Stays, Writes, Syncs, Speaks, Reads};
-ghost use Rattle.site_disk.specs.Replay.{as_bytes, replay};
+ghost use Rattle.site_disk.specs.Replay.{replay};
+ghost use Rattle.site_disk.specs.Picks.{halved, cut};
 ghost use Rattle.site_disk.specs.Memory.{told, Looks, Keeps, held};
 ghost use Rattle.site_disk.specs.Clock.{told_is_now};
 
 use crate::counts::begin;
+use crate::crash::{halves, last_sync, played};
+use crate::file_bytes::{are_bytes, copied, fill, put_in};
 use crate::site::Site;
 use crate::source::Failed;
 use std::alloc::{AllocError, Global};
@@ -61,6 +64,9 @@ impl MemSite {
         ensures made { result.made ≡ 0 }
         ensures faults { result.faults ≡ 0 }
         ensures wants { result.wants ≡ 0 }
+        ensures content { (told result).content ≡ content }
+        ensures only { (image : List ℕ) → (told result).may_leave image → image ≡ (told result).content }
+        ensures said { (told result).said ≡ [] }
     {
         let alloc = content.allocator();
         are_bytes(content.as_slice());
@@ -92,6 +98,26 @@ impl MemSite {
         &self.said
     }
 
+    /// One image that a crash now may leave. Pick 0 keeps no write since the last sync, pick 1 keeps
+    /// all, pick 2 keeps the first half of each written range and holds 0xA5 in the rest, and every
+    /// other pick keeps all but cuts the file at its length of the last sync.
+    pub fn crash_image(&self, pick: u8) -> Result<Bytes, AllocError>
+        ensures image { IfOk result (λ image. (told self.now).may_leave image) }
+        ensures none { pick ≡ 0 → IfOk result (λ image. image ≡ (replay self.now.start self.now.events).base) }
+        ensures all { pick ≡ 1 → IfOk result (λ image. image ≡ (told self.now).content) }
+        ensures halves { pick ≡ 2 → IfOk result (λ image. image ≡ halved self.now.start self.now.events) }
+        ensures cut { 3 ≤ pick → IfOk result (λ image. image ≡ cut self.now.start self.now.events) }
+    {
+        let content = held_bytes(self.start.as_slice(), &self.written);
+        picked(
+            self.alloc,
+            self.start.as_slice(),
+            content,
+            &self.calls,
+            pick,
+        )
+    }
+
     /// How many calls have failed.
     pub fn faults(&self) -> u64
         ensures { result ≡ self.now.faults }
@@ -107,11 +133,6 @@ impl MemSite {
     }
 }
 
-/// What a slice of bytes holds are bytes.
-fn are_bytes(bytes: &[u8])
-    ensures { AreBytes bytes.now }
-{}
-
 /// The bytes that a site holds, before and after its first write.
 fn held_bytes<'a>(start: &'a [u8], written: &'a Option<Vec<u8>>) -> &'a [u8]
     ensures { result.now ≡ held start.now written.now }
@@ -119,6 +140,32 @@ fn held_bytes<'a>(start: &'a [u8], written: &'a Option<Vec<u8>>) -> &'a [u8]
     match written {
         Some(bytes) => bytes,
         None => start,
+    }
+}
+
+/// The image of this pick.
+fn picked(
+    alloc: Global,
+    start: &[u8],
+    content: &[u8],
+    calls: &[Call],
+    pick: u8,
+) -> Result<Bytes, AllocError>
+    requires { content.now ≡ (replay start.now (reverse calls.now)).content }
+    ensures none { pick ≡ 0 → IfOk result (λ image. image ≡ (replay start.now (reverse calls.now)).base) }
+    ensures all { pick ≡ 1 → IfOk result (λ image. image ≡ (replay start.now (reverse calls.now)).content) }
+    ensures halves { pick ≡ 2 → IfOk result (λ image. image ≡ halved start.now (reverse calls.now)) }
+    ensures cut { 3 ≤ pick → IfOk result (λ image. image ≡ cut start.now (reverse calls.now)) }
+{
+    if pick == 1 {
+        return copied(alloc, content);
+    }
+    let settled = last_sync(calls);
+    let base = played(alloc, start, &calls[..settled])?;
+    match pick {
+        0 => copied(alloc, &base),
+        2 => halves(alloc, start, base, calls, settled),
+        _ => copied(alloc, &content[..base.len().min(content.len())]),
     }
 }
 
@@ -136,51 +183,6 @@ fn count(outcome: Result<(), AllocError>, faults: &mut u64, wants: &mut u64) -> 
         *wants = wants.saturating_add(1);
         return Err(Failed);
     }
-    Ok(())
-}
-
-/// A list of bytes of its own.
-fn copied(alloc: Global, bytes: &[u8]) -> Result<Bytes, AllocError>
-    ensures { IfOk result (λ copy. copy ≡ bytes.now) }
-{
-    let mut copy = Bytes::new(alloc);
-    copy.append(bytes)?;
-    Ok(copy)
-}
-
-/// Lays bytes over what stands at an offset.
-fn lay_over(file: &mut [u8], at: usize, bytes: &[u8])
-    requires { at + length bytes.now ≤ length file.old }
-    ensures { file.new ≡ take at file.old ++ (bytes.now ++ drop (at + length bytes.now) file.old) }
-{
-    file[at..at + bytes.len()].copy_from_slice(bytes);
-}
-
-/// Makes a file at least this long, with zeros at its end.
-fn widen(file: &mut Vec<u8>, end: usize) -> Result<(), AllocError>
-    ensures ok { OnOk result (file.new.items ≡ file.old.items ++ zeros (end - length file.old.items)) }
-    ensures err { OnErr result (file.new.items ≡ file.old.items) }
-{
-    if file.len() < end {
-        file.resize(end, 0)?;
-    }
-    Ok(())
-}
-
-/// Writes into a file, with zeros in a gap. It takes its memory first.
-fn put_in(file: &mut Vec<u8>, at: u64, bytes: &[u8]) -> Result<(), AllocError>
-    ensures ok { OnOk result (file.new.items ≡ put at bytes.now file.old.items) }
-    ensures err { OnErr result (file.new.items ≡ file.old.items) }
-{
-    if bytes.is_empty() {
-        return Ok(());
-    }
-    let at = at as usize;
-    let Some(end) = at.checked_add(bytes.len()) else {
-        return Err(AllocError);
-    };
-    widen(file, end)?;
-    lay_over(file, at, bytes);
     Ok(())
 }
 
@@ -252,19 +254,6 @@ fn say_in(
     calls.reserve(1)?;
     said.extend_from_slice(bytes)?;
     keep(calls, Call::Say(copy))
-}
-
-/// Fills a piece; zeros stand past the end.
-fn fill(content: &[u8], at: u64, into: &mut [u8])
-    ensures { (i : ℕ) → i < length into.new → get_or into.new i 0 ≡ get_or content.now (at + i) 0 }
-{
-    let at = at as usize;
-    for i in 0..into.len() {
-        into[i] = match at.checked_add(i) {
-            Some(place) if place < content.len() => content[place],
-            _ => 0,
-        };
-    }
 }
 
 impl Site for MemSite {

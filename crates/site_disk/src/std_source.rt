@@ -13,7 +13,9 @@ pub struct StdSource {
 }
 
 impl StdSource {
-    pub fn new(rt: &HostRuntime) -> StdSource {
+    pub fn new(rt: &HostRuntime) -> StdSource
+        ensures { result.faults ≡ 0 }
+    {
         StdSource {
             input: rt.stdin(),
             faults: 0,

@@ -7,6 +7,7 @@
 #![tactic(auto)]
 
 pub mod bytes;
+pub mod change;
 pub mod kind;
 pub mod metric;
 pub mod numbers;
@@ -16,6 +17,7 @@ pub mod steps;
 pub mod vector;
 
 pub use bytes::Bytes;
+pub use change::{Change, Changes};
 pub use kind::MetricKind;
 pub use metric::Metric;
 pub use numbers::{Number, Numbers};

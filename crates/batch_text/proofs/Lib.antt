@@ -1,0 +1,7 @@
+mod Left
+mod Places
+mod Cut
+mod Fitting
+mod Steps
+mod Applying
+mod Cases
