@@ -161,7 +161,12 @@ fn goes_on_after_a_failed_sync(rt: HostRuntime) -> Result<(), Fail> {
     let rows: [(&[Step], [&[u8]; 4]); 2] = [
         (
             &STEPS[..6],
-            [b"abcdefgh", b"abX12fgPQRS", b"abX1\xa5fgPQ\xa5\xa5", b"abX12fgP"],
+            [
+                b"abcdefgh",
+                b"abX12fgPQRS",
+                b"abX1\xa5fgPQ\xa5\xa5",
+                b"abX12fgP",
+            ],
         ),
         (&STEPS[6..], ROWS[10]),
     ];
