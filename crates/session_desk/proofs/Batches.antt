@@ -1,5 +1,5 @@
 -- A batch with a faulty record behind changes that apply.
-use Rattle.std.proofs.Common.{◌≡◌, ℕ, ◌+◌, length, sym, ap, subst, ◌∙◌}
+use Rattle.std.proofs.Common.{◌≡◌, ℕ, ◌+◌, length, ap, subst, ◌∙◌}
 use Rattle.std.specs.Prelude.{Option, Some, Result, Ok, Err, IsOk}
 use Rattle.std.specs.FinMap as map
 use Rattle.vec_record.specs.Held.{Rows}

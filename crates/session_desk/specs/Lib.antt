@@ -4,3 +4,4 @@ pub mod Settings
 pub mod Reading
 pub mod Input
 pub mod Answers
+pub mod Moments

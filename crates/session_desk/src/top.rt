@@ -1,5 +1,7 @@
 ghost use Rattle.std.specs.Prelude.{◌≡◌, ◌≤◌, ◌<◌, ◌+◌, ◌++◌, ◌⊎◌, [], ℕ, List, None, false, IsTrue, length, take, map, string_bytes};
 ghost use Rattle.site_disk.specs.Causes.{Rose};
+ghost use Rattle.site_disk.specs.State.{Safe};
+ghost use Rattle.session_desk.specs.Moments.{IsSaying, LeavesAlone};
 ghost use Rattle.session_desk.specs.Statuses.{is_fault};
 ghost use Rattle.session_desk.specs.Words.{setting_of};
 ghost use Rattle.session_desk.specs.Reading.{IsTaken};
@@ -23,6 +25,8 @@ fn say<T: Site>(site: &mut T, status: Status, text: &[u8]) -> Status
     ensures status { (result ≡ status) ⊎ (result ≡ Status.SiteFault) }
     ensures said { IsTrue T.tells → is_fault result ≡ false → (T.state site.new).said ≡ (T.state site.old).said ++ text.now }
     ensures prefix { IsTrue T.tells → (n : ℕ) × ((T.state site.new).said ≡ (T.state site.old).said ++ take n text.now) }
+    ensures moments { IsTrue T.tells → Safe (T.state site.old) (T.state site.new) (IsSaying (T.state site.old) text.now) }
+    ensures alone { IsTrue T.tells → LeavesAlone (T.state site.old) (T.state site.new) }
     ensures fault { result ≡ Status.SiteFault → Rose (T.faults site.old) (T.faults site.new) }
     ensures later { T.faults site.old ≤ T.faults site.new }
 {
@@ -47,6 +51,10 @@ pub fn run<S: Source, T: Site, L: Ledger>(
     ensures status { IsTrue S.tells → is_fault result ≡ false → result ≡ (answer_of (setting_of (map string_bytes words.now)) (S.left source.old)).status }
     ensures text { IsTrue S.tells → IsTrue T.tells → is_fault result ≡ false → (T.state site.new).said ≡ (T.state site.old).said ++ (answer_of (setting_of (map string_bytes words.now)) (S.left source.old)).text }
     ensures prefix { IsTrue S.tells → IsTrue T.tells → (n : ℕ) × ((T.state site.new).said ≡ (T.state site.old).said ++ take n (answer_of (setting_of (map string_bytes words.now)) (S.left source.old)).text) }
+
+    // At every moment a prefix of that text was said, and the content and the images are left alone.
+    ensures moments { IsTrue S.tells → IsTrue T.tells → Safe (T.state site.old) (T.state site.new) (IsSaying (T.state site.old) (answer_of (setting_of (map string_bytes words.now)) (S.left source.old)).text) }
+    ensures alone { IsTrue T.tells → LeavesAlone (T.state site.old) (T.state site.new) }
 
     // Words of no known form end with the usage line, and nothing is read.
     ensures words { result ≡ Status.Words → setting_of (map string_bytes words.now) ≡ None }

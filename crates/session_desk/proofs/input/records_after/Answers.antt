@@ -1,7 +1,7 @@
-use Rattle.std.proofs.Common.{◌≡◌, ◌+◌, ℕ, length, sym, ap, subst, ◌∙◌}
+use Rattle.std.proofs.Common.{◌≡◌, ◌+◌, ℕ, sym, ap, subst, ◌∙◌}
 use Rattle.std.specs.Prelude.{Some, Err}
 use Rattle.std.specs.List.{AllByRecursion}
-use Rattle.vec_record.specs.Held.{Held, Rows}
+use Rattle.vec_record.specs.Held.{Held}
 use Rattle.batch_text.specs.Batch.{Fits}
 use Rattle.session_desk.specs.Input.{unless_faulty}
 use Rattle.session_desk.proofs.Batches.{faulty_batch}
