@@ -1,0 +1,4 @@
+pub mod Choice
+pub mod Laws
+pub mod Least
+pub mod Sides
