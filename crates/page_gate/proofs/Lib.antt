@@ -9,6 +9,7 @@ pub mod Written
 pub mod Committing
 pub mod Births
 pub mod Looking
+pub mod Marks
 pub mod Reading
 pub mod Taking
 pub mod Recovery

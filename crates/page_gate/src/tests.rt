@@ -1,5 +1,9 @@
+ghost use Rattle.std.specs.Prelude.{◌≡◌, ℕ, List, length, IfOk};
+ghost use Rattle.page_gate.specs.Gate.{count_of};
+ghost use Rattle.page_gate.specs.Writes.{pairs, new_count, IsPlan};
+
 use crate::gate::number_4;
-use crate::{OpenFault, Page, Pages, birth, is_blank, open_pages};
+use crate::{OpenFault, Page, PageWrite, PageWrites, Pages, birth, commit, is_blank, open_pages};
 use site_disk::{Failed, MemSite, Site};
 use std::alloc::{AllocError, Global};
 use std::test::Fail;
@@ -21,6 +25,15 @@ fn site(alloc: Global, content: &[u8], stop: Option<u32>) -> Result<MemSite, All
     let mut bytes = Bytes::new(alloc);
     bytes.append(content)?;
     Ok(MemSite::new(bytes, Numbers::new(alloc), stop))
+}
+
+/// A site at which one call fails.
+fn failing_site(alloc: Global, content: &[u8], call: u32) -> Result<MemSite, AllocError> {
+    let mut bytes = Bytes::new(alloc);
+    bytes.append(content)?;
+    let mut fail = Numbers::new(alloc);
+    fail.push(call)?;
+    Ok(MemSite::new(bytes, fail, None))
 }
 
 /// A file of this length with this byte 0 and zeros behind it.
@@ -142,6 +155,176 @@ fn cut_births(rt: HostRuntime) -> Result<(), Fail> {
             let marks = mark(open_pages(alloc, &mut again)) == Some(9);
             assert!(rt; (blank && !born) || marks, "stop {stop} pick {pick}");
         }
+    }
+    Ok(())
+}
+
+/// A store of two pages behind the gate page, with a byte of each set.
+fn two_pages<T: Site>(site: &mut T) -> Result<(), Failed> {
+    site.write_at(49_151, &[0])?;
+    site.write_at(0, b"\x01\0denswh")?;
+    site.write_at(16_384, b"\x03\0\0\0\x09")?;
+    site.write_at(32_768, &[7])
+}
+
+/// A page with two bytes set.
+fn marked(alloc: Global, first: u8, fifth: u8) -> Result<Page, AllocError>
+    ensures { IfOk result (λ page. count_of page ≡ first) }
+{
+    let mut page = Page::zeros(alloc)?;
+    page.set(0, first);
+    page.set(4, fifth);
+    Ok(page)
+}
+
+/// Pages 1 to 3 as writes.
+fn three(alloc: Global, first: Page, second: Page, third: Page) -> Result<PageWrites, AllocError>
+    requires { count_of first ≡ 4 }
+    ensures plan { IfOk result (λ w. (pages : List (List ℕ)) → length pages ≡ 2 → IsPlan pages (pairs w)) }
+    ensures count { IfOk result (λ w. new_count (pairs w) ≡ 4) }
+{
+    let mut writes = PageWrites::new(alloc);
+    writes.push(PageWrite {
+        page: 1,
+        bytes: first,
+    })?;
+    writes.push(PageWrite {
+        page: 2,
+        bytes: second,
+    })?;
+    writes.push(PageWrite {
+        page: 3,
+        bytes: third,
+    })?;
+    Ok(writes)
+}
+
+/// What the store holds in the end.
+fn new_pages(alloc: Global) -> Result<PageWrites, AllocError>
+    ensures plan { IfOk result (λ w. (pages : List (List ℕ)) → length pages ≡ 2 → IsPlan pages (pairs w)) }
+    ensures count { IfOk result (λ w. new_count (pairs w) ≡ 4) }
+{
+    let first = marked(alloc, 4, 8)?;
+    let second = marked(alloc, 6, 0)?;
+    let third = marked(alloc, 5, 0)?;
+    three(alloc, first, second, third)
+}
+
+/// Changes both pages of a store of two and adds one.
+fn advance<T: Site>(alloc: Global, site: &mut T) -> Result<(), OpenFault> {
+    let mut pages = open_pages(alloc, site)?;
+    let Ok(writes) = new_pages(alloc) else {
+        return Err(OpenFault::Memory);
+    };
+    if pages.count() != 3 || pages.reserve(1).is_err() {
+        return Err(OpenFault::Memory);
+    }
+    match commit(site, &mut pages, writes) {
+        Ok(()) => Ok(()),
+        Err(_) => Err(OpenFault::SiteFault),
+    }
+}
+
+/// The number of pages and a byte of each, where the store opens.
+fn marks(opened: Result<Pages, OpenFault>) -> Option<(u32, u8, u8, Option<u8>)> {
+    match opened {
+        Ok(pages) => {
+            let first = pages.page(1)?.as_slice()[4];
+            let second = pages.page(2)?.as_slice()[0];
+            let third = pages.page(3).map(|page| page.as_slice()[0]);
+            Some((pages.count(), first, second, third))
+        }
+        Err(_) => None,
+    }
+}
+
+const OLD: Option<(u32, u8, u8, Option<u8>)> = Some((3, 9, 7, None));
+
+const NEW: Option<(u32, u8, u8, Option<u8>)> = Some((4, 8, 6, Some(5)));
+
+/// Whether each image of now opens with the old pages or the new ones, or with the new ones alone.
+fn opens_well(alloc: Global, device: &MemSite, done: bool) -> Result<bool, AllocError> {
+    let mut well = true;
+    for pick in 0..4 {
+        let image = device.crash_image(pick)?;
+        let mut again = site(alloc, image.as_slice(), None)?;
+        let found = marks(open_pages(alloc, &mut again));
+        well = well && (found == NEW || (found == OLD && !done));
+    }
+    Ok(well)
+}
+
+/// Whether a commit is made as it should be, and each image that it leaves opens well.
+fn advances_well(alloc: Global, mut device: MemSite, whole: bool) -> Result<bool, AllocError> {
+    let done = advance(alloc, &mut device).is_ok();
+    let well = opens_well(alloc, &device, done)?;
+    Ok(well && done == whole)
+}
+
+/// Each image that a cut commit leaves opens with the old pages or the new ones; after one that was
+/// not cut there are the new ones alone.
+#[test]
+fn cut_commits(rt: HostRuntime) -> Result<(), Fail> {
+    let alloc = rt.alloc();
+    let mut made = site(alloc, b"", None)?;
+    assert!(rt; two_pages(&mut made).is_ok());
+    for stop in 0..26 {
+        let device = site(alloc, made.content(), Some(stop))?;
+        assert!(rt; advances_well(alloc, device, stop >= 23)?, "stop {stop}");
+    }
+    Ok(())
+}
+
+/// So it is where one call fails.
+#[test]
+fn failing_commits(rt: HostRuntime) -> Result<(), Fail> {
+    let alloc = rt.alloc();
+    let mut made = site(alloc, b"", None)?;
+    assert!(rt; two_pages(&mut made).is_ok());
+    for call in 1..26 {
+        let device = failing_site(alloc, made.content(), call)?;
+        assert!(rt; advances_well(alloc, device, call > 23)?, "call {call}");
+    }
+    Ok(())
+}
+
+/// Whether each image of now is blank or opens with the page, or opens with it alone.
+fn bears_well(alloc: Global, device: &MemSite, born: bool) -> Result<bool, AllocError> {
+    let mut well = true;
+    for pick in 0..4 {
+        let image = device.crash_image(pick)?;
+        let mut again = site(alloc, image.as_slice(), None)?;
+        let blank = is_blank(&mut again).is_ok_and(|blank| blank);
+        let whole = mark(open_pages(alloc, &mut again)) == Some(9);
+        well = well && ((blank && !born) || whole);
+    }
+    Ok(well)
+}
+
+/// A birth in which one call fails leaves a blank file or the new store.
+#[test]
+fn failing_births(rt: HostRuntime) -> Result<(), Fail> {
+    let alloc = rt.alloc();
+    let first = marked(alloc, 2, 9)?;
+    for call in 1..42 {
+        let mut device = failing_site(alloc, b"", call)?;
+        let born = bear(&mut device, &first).is_ok_and(|born| born);
+        assert!(rt; bears_well(alloc, &device, born)?, "call {call}");
+    }
+    Ok(())
+}
+
+/// A recovery in which one call fails leaves what opens with the same page.
+#[test]
+fn failing_openings(rt: HostRuntime) -> Result<(), Fail> {
+    let alloc = rt.alloc();
+    let mut made = site(alloc, b"", None)?;
+    assert!(rt; store(&mut made, 1).is_ok());
+    for call in 1..18 {
+        let mut device = failing_site(alloc, made.content(), call)?;
+        let opened = mark(open_pages(alloc, &mut device));
+        assert!(rt; opened.is_none() || opened == Some(9), "call {call}");
+        assert!(rt; bears_well(alloc, &device, true)?, "call {call}");
     }
     Ok(())
 }
