@@ -1,10 +1,10 @@
 #!/usr/bin/env bash
 # Time per pair of records and greatest memory of `once` on 2,000 and 20,000 one-dimensional records.
-# Wants the built program: cd crates/densewh && rt run. Prints one line a size.
+# Wants the built program: make demo. Prints one line a size.
 set -eu
 top=$(cd "$(dirname "$0")/.." && pwd)
 program=$top/crates/densewh/out/densewh
-[ -x "$program" ] || { echo "build the program first: cd crates/densewh && rt run"; exit 1; }
+[ -x "$program" ] || { echo "build the program first: make demo"; exit 1; }
 work=$(mktemp -d)
 trap 'rm -rf "$work"' EXIT
 grep -m1 'model name' /proc/cpuinfo | sed 's/.*: /processor: /'
