@@ -1,4 +1,4 @@
-ghost use Rattle.std.specs.Prelude.{◌≡◌, ◌<◌, ℕ, [], ◌∷◌, ◌++◌, length, set, get_or, OnOk, OnErr, IfOk};
+ghost use Rattle.std.specs.Prelude.{◌≡◌, ◌<◌, ◌≤◌, ◌+◌, ℕ, [], ◌∷◌, ◌++◌, length, take, drop, replicate, set, get_or, OnOk, OnErr, IfOk};
 ghost use Rattle.vec_record.specs.Vectors.{AreBytes};
 ghost use Rattle.std.specs.Prelude.{IsTrue};
 ghost use Rattle.site_disk.specs.Causes.{HasCause};
@@ -51,6 +51,21 @@ impl Page {
         ensures { self.new ≡ set self.old at byte }
     {
         self.bytes[at] = byte;
+    }
+
+    /// Changes the bytes from `at` on to these.
+    pub fn put(&mut self, at: usize, bytes: &[u8])
+        requires { at + length bytes.now ≤ 16384 }
+        ensures { self.new ≡ take at self.old ++ bytes.now ++ drop (at + length bytes.now) self.old }
+    {
+        self.bytes[at..at + bytes.len()].copy_from_slice(bytes);
+    }
+
+    /// Makes all bytes zero.
+    pub fn clear(&mut self)
+        ensures { self.new ≡ replicate 16384 0 }
+    {
+        *self.bytes = [0; PAGE_BYTES];
     }
 
     /// Fills the page from the offset on.

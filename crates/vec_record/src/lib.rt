@@ -8,6 +8,7 @@
 
 pub mod bytes;
 pub mod change;
+pub mod event;
 pub mod kind;
 pub mod metric;
 pub mod numbers;
@@ -18,6 +19,7 @@ pub mod vector;
 
 pub use bytes::Bytes;
 pub use change::{Change, Changes};
+pub use event::{Event, Events, Kind};
 pub use kind::MetricKind;
 pub use metric::Metric;
 pub use numbers::{Number, Numbers};
