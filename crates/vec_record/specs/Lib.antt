@@ -2,3 +2,4 @@ pub mod Vectors
 pub mod Distance
 pub mod Limits
 pub mod Held
+pub mod Spelled
