@@ -8,4 +8,6 @@ pub mod Merging
 pub mod Places
 pub mod Bounds
 pub mod MarksOf
+pub mod CasesOf
+pub mod MarksRise
 pub mod Rows

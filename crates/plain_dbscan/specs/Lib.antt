@@ -4,3 +4,5 @@ pub mod Laws
 pub mod Texts
 pub mod Points
 pub mod Merging
+pub mod Cases
+pub mod Across

@@ -3,9 +3,11 @@
 //! The definitions of `specs/` say what a neighbourhood, a core, a cluster, a mark and a report are.
 //! They look at all pairs of records. [`cluster_plain`] computes the marks from them and is promised
 //! to give exactly theirs, for every lawful metric; [`laws`] ties the marks to the relations that a
-//! reader believes. It stands on `vec_record`.
+//! reader believes. [`cases_plain`] gives the events of one change, from the marks before and after
+//! it. It stands on `vec_record`.
 #![tactic(auto)]
 
+pub mod cases;
 mod cores;
 mod labels;
 pub mod laws;
@@ -13,5 +15,6 @@ pub mod marks;
 pub mod plain;
 mod points;
 
+pub use cases::cases_plain;
 pub use marks::{Mark, Marks};
 pub use plain::cluster_plain;
