@@ -8,14 +8,16 @@ use Rattle.std.proofs.lemmas.List.FromFn.{length-map-range_with_len}
 use Rattle.std.proofs.lemmas.Option.{none-some, same_Some, cond_some}
 use Rattle.vec_record.specs.Limits.{width_of}
 use Rattle.vec_record.specs.Vectors.{AreBytes}
+use Rattle.vec_record.specs.Spelled.{is_spelled}
 use Rattle.vec_record.specs.declared.change.Change.{Change}
 use Rattle.vec_record.specs.declared.change.Change.TheVariants.{Insert, Delete}
 use Rattle.vec_record.specs.declared.kind.MetricKind.{MetricKind}
 use Rattle.vec_record.specs.declared.kind.MetricKind.TheVariants.{L1, Max, Hamming}
 use Rattle.batch_text.specs.Numbers.{number_of, within}
 use Rattle.batch_text.specs.Vectors.{alone, bytes_of, joined, packed_byte, spelled, spelled_by}
+use Rattle.batch_text.proofs.Spelling.{parts_spelled}
 use Rattle.batch_text.specs.Grammar.{change_of, deletion, insertion, signed_change}
-use Rattle.batch_text.specs.Batch.{Fits, changes_next, changes_of, said_by}
+use Rattle.batch_text.specs.Batch.{Fits, IsSpelledChange, changes_next, changes_of, said_by}
 use Rattle.batch_text.specs.declared.faults.LineFault.{LineFault}
 use Rattle.batch_text.specs.declared.read.ReadBatch.{ReadBatch}
 use Rattle.batch_text.specs.declared.faults.LineFault.TheVariants.{Malformed, WrongLength}
@@ -89,47 +91,56 @@ chosen false x y c e = inr e
 abbrev good : Change → Result Change LineFault
 good c = Ok c
 
-changed_here : (width : ℕ) (a c : Change) → Fits width a → good a ≡ good c → Fits width c
-changed_here width a c h e = let same : a ≡ c = cc e in subst (Fits width) same h
-
-insertion_fits : (m : MetricKind) (dim n : ℕ) (o : Option (List ℕ)) (c : Change) → n ≢ 0 → ((parts : List ℕ) → o ≡ Some parts → AreBytes (bytes_of m parts)) → insertion m dim n o ≡ Ok c → Fits (width_of m dim) c
-insertion_fits m dim n None c some h e = cc e
-insertion_fits m dim n (Some parts) c some h e =
-    elim (chosen (length parts == dim) (Ok (Insert n (bytes_of m parts))) (Err WrongLength) c e) [
-      | inl p ↦ changed_here (width_of m dim) (Insert n (bytes_of m parts)) c (some, record { len = byte_count m parts ∙ ap (width_of m) (eqb-true _ _ p.0); bytes = h parts refl }) p.1
-      | inr q ↦ cc q
-    ]
-
-deletion_fits : (width n : ℕ) (fs : List (List ℕ)) (c : Change) → n ≢ 0 → deletion n fs ≡ Ok c → Fits width c
-deletion_fits width n [] c some e = changed_here width (Delete n) c some e
-deletion_fits width n (f ∷ fs) c some e = cc e
-
-signed_fits : (m : MetricKind) (dim : ℕ) (sign : List ℕ) (o : Option ℕ) (fs : List (List ℕ)) (c : Change) → ((n : ℕ) → o ≡ Some n → n ≢ 0) → signed_change m dim sign o fs ≡ Ok c → Fits (width_of m dim) c
-signed_fits m dim sign None fs c h e = cc e
-signed_fits m dim sign (Some n) fs c h e =
-    elim (chosen (bytes_eq sign (codes "+")) (insertion m dim n (spelled m fs)) (cond (bytes_eq sign (codes "-")) (deletion n fs) (Err Malformed)) c e) [
-      | inl p ↦ insertion_fits m dim n (spelled m fs) c (h n refl) (are_bytes m fs) p.1
-      | inr q ↦ elim (chosen (bytes_eq sign (codes "-")) (deletion n fs) (Err Malformed) c q) [
-        | inl r ↦ deletion_fits (width_of m dim) n fs c (h n refl) r.1
-        | inr s ↦ cc s
-      ]
-    ]
-
 not_zero : (text : List ℕ) (n : ℕ) → within 1 4294967295 (number_of text) ≡ Some n → n ≢ 0
 not_zero text n e = let b = within_both 1 4294967295 (number_of text) n e in λ z. omega (arith, b.0, z)
 
-change_fits : (m : MetricKind) (dim : ℕ) (r : List (List ℕ)) (c : Change) → change_of m dim r ≡ Ok c → Fits (width_of m dim) c
-change_fits m dim [] c e = cc e
-change_fits m dim (s ∷ []) c e = cc e
-change_fits m dim (s ∷ n ∷ fs) c e = signed_fits m dim s (within 1 4294967295 (number_of n)) fs c (not_zero n) e
+changed_here : (P : Change → Type 0) (a c : Change) → P a → good a ≡ good c → P c
+changed_here P a c h e = let same : a ≡ c = cc e in subst P same h
 
-next_fits : (width : ℕ) (o : Result Change LineFault) (cs : List Change) → ((c : Change) → o ≡ Ok c → Fits width c) → AllByRecursion (Fits width) cs → AllByRecursion (Fits width) (changes_next o cs)
-next_fits width (Ok c) cs h k = (h c refl, k)
-next_fits width (Err e) cs h k = tt
+-- What holds of each insertion of dim coordinates or bits, and of each deletion, holds of each change that a record is.
+module _ (m : MetricKind) (dim : ℕ) (P : Change → Type 0)
+    (inserted : (n : ℕ) (fs : List (List ℕ)) (parts : List ℕ) → n ≢ 0 → spelled m fs ≡ Some parts → length parts ≡ dim → P (Insert n (bytes_of m parts)))
+    (deleted : (n : ℕ) → n ≢ 0 → P (Delete n)) where
+  insertion_so : (n : ℕ) (fs : List (List ℕ)) (o : Option (List ℕ)) (c : Change) → n ≢ 0 → spelled m fs ≡ o → insertion m dim n o ≡ Ok c → P c
+  insertion_so n fs None c some is e = cc e
+  insertion_so n fs (Some parts) c some is e = elim (chosen (length parts == dim) (Ok (Insert n (bytes_of m parts))) (Err WrongLength) c e) [
+    | inl p ↦ changed_here P (Insert n (bytes_of m parts)) c (inserted n fs parts some is (eqb-true _ _ p.0)) p.1
+    | inr q ↦ cc q
+  ]
+
+  deletion_so : (n : ℕ) (fs : List (List ℕ)) (c : Change) → n ≢ 0 → deletion n fs ≡ Ok c → P c
+  deletion_so n [] c some e = changed_here P (Delete n) c (deleted n some) e
+  deletion_so n (f ∷ fs) c some e = cc e
+
+  signed_so : (sign : List ℕ) (o : Option ℕ) (fs : List (List ℕ)) (c : Change) → ((n : ℕ) → o ≡ Some n → n ≢ 0) → signed_change m dim sign o fs ≡ Ok c → P c
+  signed_so sign None fs c h e = cc e
+  signed_so sign (Some n) fs c h e =
+      elim (chosen (bytes_eq sign (codes "+")) (insertion m dim n (spelled m fs)) (cond (bytes_eq sign (codes "-")) (deletion n fs) (Err Malformed)) c e) [
+        | inl p ↦ insertion_so n fs (spelled m fs) c (h n refl) refl p.1
+        | inr q ↦ elim (chosen (bytes_eq sign (codes "-")) (deletion n fs) (Err Malformed) c q) [
+          | inl r ↦ deletion_so n fs c (h n refl) r.1
+          | inr s ↦ cc s
+        ]
+      ]
+
+  change_so : (r : List (List ℕ)) (c : Change) → change_of m dim r ≡ Ok c → P c
+  change_so [] c e = cc e
+  change_so (s ∷ []) c e = cc e
+  change_so (s ∷ n ∷ fs) c e = signed_so s (within 1 4294967295 (number_of n)) fs c (not_zero n) e
+
+  next_so : (o : Result Change LineFault) (cs : List Change) → ((c : Change) → o ≡ Ok c → P c) → AllByRecursion P cs → AllByRecursion P (changes_next o cs)
+  next_so (Ok c) cs h k = (h c refl, k)
+  next_so (Err e) cs h k = tt
+
+  all_so : (rs : List (List (List ℕ))) → AllByRecursion P (changes_of m dim rs)
+  all_so [] = tt
+  all_so (r ∷ rs) = next_so (change_of m dim r) (changes_of m dim rs) (change_so r) (all_so rs)
 
 all_fit : (m : MetricKind) (dim : ℕ) (rs : List (List (List ℕ))) → AllByRecursion (Fits (width_of m dim)) (changes_of m dim rs)
-all_fit m dim [] = tt
-all_fit m dim (r ∷ rs) = next_fits (width_of m dim) (change_of m dim r) (changes_of m dim rs) (change_fits m dim r) (all_fit m dim rs)
+all_fit m dim rs = all_so m dim (Fits (width_of m dim)) (λ n fs parts some is len. (some, record { len = byte_count m parts ∙ ap (width_of m) len; bytes = are_bytes m fs parts is })) (λ n some. some) rs
+
+all_spelled : (m : MetricKind) (dim : ℕ) (rs : List (List (List ℕ))) → AllByRecursion (IsSpelledChange m dim) (changes_of m dim rs)
+all_spelled m dim rs = all_so m dim (IsSpelledChange m dim) (λ n fs parts some is len. ap (λ (d : ℕ). is_spelled m d (bytes_of m parts)) (sym len) ∙ parts_spelled m parts) (λ n some. tt) rs
 
 next_short : (o : Result Change LineFault) (cs : List Change) (n : ℕ) → length cs ≤ n → length (changes_next o cs) ≤ n + 1
 next_short (Ok c) cs n h = omega (arith, h)
@@ -154,6 +165,9 @@ told_whole m dim rs b e le =
 
 pub told_fits : (m : MetricKind) (dim : ℕ) (rs : List (List (List ℕ))) (b : ReadBatch) → b ≡ said_by m dim rs → AllByRecursion (Fits (width_of m dim)) b.changes
 told_fits m dim rs b e = subst (λ (x : ReadBatch). AllByRecursion (Fits (width_of m dim)) x.changes) (sym e) (all_fit m dim rs)
+
+pub told_spelled : (m : MetricKind) (dim : ℕ) (rs : List (List (List ℕ))) (b : ReadBatch) → b ≡ said_by m dim rs → AllByRecursion (IsSpelledChange m dim) b.changes
+told_spelled m dim rs b e = subst (λ (x : ReadBatch). AllByRecursion (IsSpelledChange m dim) x.changes) (sym e) (all_spelled m dim rs)
 
 pub told_places : (m : MetricKind) (dim : ℕ) (rs : List (List (List ℕ))) (b : ReadBatch) → b ≡ said_by m dim rs → length b.changes ≤ b.total
 told_places m dim rs b e = subst (λ (x : ReadBatch). length x.changes ≤ x.total) (sym e) (none_more m dim rs)

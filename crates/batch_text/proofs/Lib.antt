@@ -1,6 +1,7 @@
 mod Left
 mod Places
 mod Cut
+mod Spelling
 mod Fitting
 mod Steps
 mod Applying

@@ -1,6 +1,7 @@
 -- What a body says as a batch.
-use Rattle.std.specs.Prelude.{ℕ, ◌≢◌, List, [], ◌∷◌, length, take, Option, Some, None, Result, Ok, Err}
+use Rattle.std.specs.Prelude.{ℕ, ◌≢◌, IsTrue, List, [], ◌∷◌, length, take, Option, Some, None, Result, Ok, Err}
 use Rattle.vec_record.specs.Vectors.{IsVector}
+use Rattle.vec_record.specs.Spelled.{is_spelled}
 use Rattle.vec_record.specs.declared.change.Change.{Change}
 use Rattle.vec_record.specs.declared.change.Change.TheVariants.{Insert, Delete}
 use Rattle.vec_record.specs.declared.kind.MetricKind.{MetricKind}
@@ -40,3 +41,8 @@ batch_of metric dim body = said_by metric dim (take 100001 (records_of body))
 abbrev pub Fits : ℕ → Change → Type 0
 Fits width (Insert n v) = (n ≢ 0) × IsVector width v
 Fits width (Delete n) = n ≢ 0
+
+-- a change whose vector has no bit past its last
+abbrev pub IsSpelledChange : MetricKind → ℕ → Change → Type 0
+IsSpelledChange metric dim (Insert n v) = IsTrue (is_spelled metric dim v)
+IsSpelledChange metric dim (Delete n) = Unit {0}
