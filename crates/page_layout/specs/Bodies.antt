@@ -1,0 +1,103 @@
+-- Body pages. All are record pages: slots of one width, each free or with a record.
+use Rattle.std.specs.Prelude.{◌≡◌, ◌≢◌, ℕ, ◌+◌, ◌-◌, ◌*◌, ◌/◌, ◌<◌, ◌^◌, ◌==◌, if◌then◌else◌, List, [], ◌∷◌, ◌++◌, length, map, replicate, get_or, Option, Some, None, Result, IsTrue}
+use Rattle.std.specs.List.{AllByRecursion, flat_map, range_with_len}
+use Rattle.vec_record.specs.Vectors.{IsVector}
+use Rattle.vec_record.specs.Limits.{width_of}
+use Rattle.vec_record.specs.Spelled.{is_spelled}
+use Rattle.page_gate.specs.Gate.{part, number_4}
+use Rattle.page_layout.specs.declared.fault.LayoutFault.{LayoutFault}
+use Rattle.page_layout.specs.declared.body.Body.{Body}
+use Rattle.page_layout.specs.declared.body.Body.TheVariants.{Slots}
+use Rattle.page_layout.specs.declared.slot.Slot.{Slot}
+use Rattle.page_layout.specs.declared.slot.SlotView.{SlotView}
+use Rattle.page_layout.specs.Fields.{Field, word, zero_fields, first_bad, unless_bad}
+use Rattle.page_layout.specs.Heads.{Values}
+
+-- the slots of a page, each free or with a record
+abbrev pub Rows : Type 0
+Rows = List (Option Slot)
+
+abbrev pub rows_of : Body → Rows
+rows_of (Slots rows) = rows
+
+-- a record that is lent, as what its slot holds
+abbrev pub lent : SlotView → Slot
+lent s = record { number = s.number; count = s.count; anchor = s.anchor; label = s.label; vector = s.vector.now }
+
+-- the bytes of a slot whose vector has this width, and how many slots a page has
+abbrev pub slot_size : ℕ → ℕ
+slot_size width = 16 + width
+
+abbrev pub slots_in_page : ℕ → ℕ
+slots_in_page width = 16368 / slot_size width
+
+-- where a slot begins
+abbrev pub slot_at : ℕ → ℕ → ℕ
+slot_at width i = 16 + slot_size width * i
+
+-- The fields of a slot behind its number: a free one is zero; in a used one the count, the anchor and the label are
+-- zero, and the vector has no bit past its last, which is charged to its last byte.
+abbrev pub slot_fields : Values → List ℕ → ℕ → List Field
+slot_fields v page at =
+    if number_4 at page == 0 then zero_fields (at + 4) (12 + width_of v.metric v.dim) page
+    else (at + 4, number_4 (at + 4) page == 0) ∷ (at + 8, number_4 (at + 8) page == 0) ∷ (at + 12, number_4 (at + 12) page == 0)
+    ∷ (at + 15 + width_of v.metric v.dim, is_spelled v.metric v.dim (part (at + 16) (width_of v.metric v.dim) page)) ∷ []
+
+-- the fields of n slots from this one on
+abbrev pub slots_fields : Values → List ℕ → ℕ → ℕ → List Field
+slots_fields v page i n = flat_map (λ k. slot_fields v page (slot_at (width_of v.metric v.dim) k)) (range_with_len i n)
+
+-- the fields of a record page by rising offset: its kind, zeros, the slots, and zeros
+unfoldable pub body_fields : Values → List ℕ → List Field
+body_fields v page =
+    let width = width_of v.metric v.dim in
+    let n = slots_in_page width in
+    (0, get_or page 0 0 == 1) ∷ (zero_fields 1 15 page ++ (slots_fields v page 0 n ++ zero_fields (slot_at width n) (16384 - slot_at width n) page))
+
+-- what a slot says
+unfoldable pub slot_in : ℕ → List ℕ → ℕ → Option Slot
+slot_in width page at =
+    if number_4 at page == 0 then None
+    else Some (record {
+      number = number_4 at page;
+      count = number_4 (at + 4) page;
+      anchor = number_4 (at + 8) page;
+      label = number_4 (at + 12) page;
+      vector = part (at + 16) width page;
+    })
+
+-- what the slots of a page say
+abbrev pub rows_in : ℕ → List ℕ → Rows
+rows_in width page = map (λ k. slot_in width page (slot_at width k)) (range_with_len 0 (slots_in_page width))
+
+-- what a page says as a body page: damaged at the first field that isn't lawful, or its slots
+unfoldable pub body_of : Values → List ℕ → Result Rows LayoutFault
+body_of v page = unless_bad (first_bad (body_fields v page)) (rows_in (width_of v.metric v.dim) page)
+
+-- what a used slot may hold
+pub record IsSlot (v : Values) (s : Slot) : Type 0 where
+  pub number : s.number ≢ 0
+  pub small : s.number < 2 ^ 32
+  pub count : s.count ≡ 0
+  pub anchor : s.anchor ≡ 0
+  pub label : s.label ≡ 0
+  pub vector : IsVector (width_of v.metric v.dim) s.vector
+  pub spelled : IsTrue (is_spelled v.metric v.dim s.vector)
+
+abbrev pub IsRow : Values → Option Slot → Type 0
+IsRow v None = Unit {0}
+IsRow v (Some s) = IsSlot v s
+
+-- what the slots of a page may be
+pub record AreRows (v : Values) (rows : Rows) : Type 0 where
+  pub count : length rows ≡ slots_in_page (width_of v.metric v.dim)
+  pub each : AllByRecursion (IsRow v) rows
+
+-- the bytes of a slot
+abbrev pub slot_bytes : ℕ → Option Slot → List ℕ
+slot_bytes width None = replicate (16 + width) 0
+slot_bytes width (Some s) = word s.number ++ (word s.count ++ (word s.anchor ++ (word s.label ++ s.vector)))
+
+-- the written form of a record page, 16,384 bytes
+unfoldable pub body_page : ℕ → Rows → List ℕ
+body_page width rows = (1 ∷ replicate 15 0) ++ (flat_map (slot_bytes width) rows ++ replicate (16384 - slot_at width (slots_in_page width)) 0)
