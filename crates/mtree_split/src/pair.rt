@@ -1,7 +1,7 @@
-ghost use Rattle.std.specs.Prelude.{◌≡◌, ℕ, ◌+◌, ◌*◌, ◌/◌, ◌%◌, ◌<◌, ◌≤◌, ◌^◌, length, All, count_by, slice_index_or, false, IsTrue};
+ghost use Rattle.std.specs.Prelude.{◌≡◌, ℕ, ◌+◌, ◌*◌, ◌/◌, ◌%◌, ◌<◌, ◌≤◌, ◌^◌, length, count_by, slice_index_or, false, IsTrue};
 ghost use Rattle.mtree_split.specs.Laws.{IsEarlier};
 ghost use Rattle.mtree_split.specs.Sides.{sides_of};
-ghost use Rattle.mtree_split.specs.Choice.{row_of, distance_of, greater_radius, parting_of, pair_rank, choice};
+ghost use Rattle.mtree_split.specs.Choice.{row_of, greater_radius, parting_of, pair_rank, choice};
 
 use crate::side::{BEYOND, nearer_radius, side_radius, take_turns};
 
@@ -152,10 +152,6 @@ pub fn choose(count: usize, matrix: &[u32], radii: &[u32], greatest: u32) -> Par
     requires at_most { count ≤ 36 }
     requires square { length matrix.now ≡ count * count }
     requires one_radius_each { length radii.now ≡ count }
-    requires zero_diagonal { (i : ℕ) → i < count → distance_of count matrix.now i i ≡ 0 }
-    requires symmetric { (i j : ℕ) → i < count → j < count → distance_of count matrix.now i j ≡ distance_of count matrix.now j i }
-    requires distances { All (λ distance. distance ≤ greatest) matrix.now }
-    requires radii { All (λ radius. radius ≤ greatest) radii.now }
     ensures is { result ≡ choice count matrix.now radii.now greatest }
     ensures rises { result.left < result.right }
     ensures inside { result.right < count }
