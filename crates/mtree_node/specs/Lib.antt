@@ -1,0 +1,3 @@
+pub mod Layer
+pub mod Tree
+pub mod Cost
