@@ -6,3 +6,4 @@ pub mod Points
 pub mod Merging
 pub mod Cases
 pub mod Across
+pub mod Index

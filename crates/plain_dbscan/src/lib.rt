@@ -4,11 +4,12 @@
 //! They look at all pairs of records. [`cluster_plain`] computes the marks from them and is promised
 //! to give exactly theirs, for every lawful metric; [`laws`] ties the marks to the relations that a
 //! reader believes. [`cases_plain`] gives the events of one change, from the marks before and after
-//! it. It stands on `vec_record`.
+//! it. [`RangeIndex`] is what an index by distance is. It stands on `vec_record`.
 #![tactic(auto)]
 
 pub mod cases;
 mod cores;
+pub mod index;
 mod labels;
 pub mod laws;
 pub mod marks;
@@ -16,5 +17,6 @@ pub mod plain;
 mod points;
 
 pub use cases::cases_plain;
+pub use index::RangeIndex;
 pub use marks::{Mark, Marks};
 pub use plain::cluster_plain;

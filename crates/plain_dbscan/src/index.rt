@@ -1,0 +1,47 @@
+ghost use Rattle.std.specs.Prelude.{◌≡◌, ℕ, ◌+◌, ◌<◌, ◌≤◌, List, length, None, OnOk};
+ghost use Rattle.std.specs.FinMap as map;
+ghost use Rattle.vec_record.specs.Vectors.{IsWidth};
+ghost use Rattle.vec_record.specs.Held.{Rows};
+ghost use Rattle.plain_dbscan.specs.Index.{HaveWidth};
+
+use std::alloc::AllocError;
+use std::sync::ledger::Ledger;
+use vec_record::{Metric, Number, Steps, Vector};
+
+/// Vectors of one width under numbers, searched by distance.
+///
+/// The width is 1 to 512, no call changes it, and each vector that the index holds has it.
+pub trait RangeIndex<M: Metric> {
+    /// The bytes of a vector.
+    ghost width: { Self → ℕ };
+
+    /// The vectors by their numbers.
+    ghost contents: { Self → Rows };
+
+    /// How many distances a query computes, by its centre and radius.
+    ghost cost: { Self → List ℕ → ℕ → ℕ };
+
+    /// An index before and after an insertion of a number and a vector.
+    ghost grown: { Self → Self → ℕ → List ℕ → Type 0 };
+
+    /// Adds a pair. It needs fewer than 200,000 pairs, an absent number and a vector of the width.
+    ///
+    /// After an `Err` the index stands for no stated pairs.
+    fn insert<L: Ledger>(
+        &mut self,
+        number: Number,
+        vector: &Vector,
+        steps: &mut Steps<L>,
+    ) -> Result<(), AllocError>
+        requires width { length vector.now ≡ width self.old }
+        requires absent { map.get (contents self.old) number ≡ None }
+        requires room { map.len (contents self.old) < 200000 }
+        ensures grown { OnOk result (grown self.old self.new number vector.now) }
+        ensures same_width { width self.new ≡ width self.old }
+        ensures lawful_width { IsWidth (width self.old) }
+        ensures vectors { HaveWidth (width self.old) (contents self.old) }
+        ensures counted { steps.new ≤ steps.old + 16384 };
+
+    // A grown index has the pair beside those that it had, and its width.
+    ghost grows: { (before after : Self) (n : ℕ) (v : List ℕ) → grown before after n v → (width after ≡ width before) × (contents after ≡ map.insert (contents before) n v) };
+}
