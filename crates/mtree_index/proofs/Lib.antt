@@ -1,0 +1,14 @@
+pub mod Chosen
+pub mod Distinct
+pub mod Grown
+pub mod Halves
+pub mod Height
+pub mod Kept
+pub mod Matrix
+pub mod OnSide
+pub mod Opened
+pub mod Parted
+pub mod Places
+pub mod Sides
+pub mod Totals
+pub mod Widths

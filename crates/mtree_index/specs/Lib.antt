@@ -1,0 +1,5 @@
+pub mod Entries
+pub mod Split
+pub mod Insertion
+pub mod Plain
+pub mod Tree

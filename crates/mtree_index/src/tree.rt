@@ -1,0 +1,150 @@
+ghost use Rattle.std.specs.Prelude.{◌≡◌, ℕ, ◌+◌, ◌<◌, ◌≤◌, ◌↔◌, length, None, Some, IfOk, IfSome, [], ◌∷◌};
+ghost use Rattle.std.specs.Option.{option_copied};
+ghost use Rattle.vec_record.specs.Vectors.{IsWidth};
+ghost use Rattle.mtree_node.specs.Tree.{IsTree};
+ghost use Rattle.mtree_index.specs.Tree.{contents, query_cost, IsRoot, IsGrown, grown_from};
+
+use crate::insertion::insert_below;
+use crate::settle::Pair;
+use items::Items;
+use mtree_node::{LeafEntry, Node};
+use plain_dbscan::RangeIndex;
+use std::alloc::{AllocError, Global};
+use std::marker::{Model, PhantomData};
+use std::sync::ledger::Ledger;
+use vec_record::{Metric, Number, Steps, Vector};
+
+/// An M-tree: vectors of one width under distinct numbers, searched by distance.
+///
+/// Contracts see its width, its height and its root. The type keeps the tree well formed: all leaves at one
+/// depth, 7 to 30 entries in each node but the root, exact parent distances, radii that cover what is below
+/// and aren't above the metric's greatest distance, and distinct numbers.
+#[derive(Drop)]
+pub struct MTree<M: Metric> {
+    alloc: Global,
+    width: u32,
+    height: u32,
+    root: Option<Node>,
+    metric: PhantomData<M>,
+}
+
+impl<M: Metric> Model for MTree<M> {
+    ghost use Rattle.mtree_index.specs.Plain.{PlainTree, plain_code};
+    ghost use Rattle.mtree_index.specs.Tree.{IsLawful};
+
+    ghost Value = { PlainTree };
+
+    ghost coded = { plain_code };
+
+    ghost view = { λ t. record { width = t.width; height = t.height; root = t.root } };
+
+    ghost invariant = { λ t. IsLawful M.dist M.most (record { width = t.width; height = t.height; root = t.root }) };
+}
+
+impl<M: Metric> MTree<M> {
+    /// The empty tree of vectors of a width of 1 to 512 bytes. It takes no memory.
+    pub fn empty(alloc: Global, width: u32) -> MTree<M>
+        requires { IsWidth width }
+        ensures { result ≡ record { width = width; height = 0; root = None } }
+    {
+        MTree {
+            alloc,
+            width,
+            height: 0,
+            root: None,
+            metric: PhantomData,
+        }
+    }
+
+    /// The root, none exactly where the tree is empty.
+    pub fn root(&self) -> Option<&Node>
+        ensures is { option_copied result ≡ self.now.root }
+        ensures tree { IfSome result (λ n. IsTree M.dist self.now.width (M.most self.now.width) self.now.height n.now) }
+    {
+        self.root.as_ref()
+    }
+
+    /// The number of levels, 0 exactly where the tree is empty.
+    pub fn height(&self) -> u32
+        ensures is { result ≡ self.now.height }
+        ensures empty { (result ≡ 0) ↔ (self.now.root ≡ None) }
+    {
+        self.height
+    }
+}
+
+impl<M: Metric> RangeIndex<M> for MTree<M> {
+    ghost width = { λ t. t.width };
+
+    ghost contents = { contents };
+
+    ghost cost = { query_cost M.dist };
+
+    ghost grown = { IsGrown M.dist M.most };
+
+    ghost grows = { λ before after n v g. (g.width, g.contents) };
+
+    fn insert<L: Ledger>(
+        &mut self,
+        number: Number,
+        vector: &Vector,
+        steps: &mut Steps<L>,
+    ) -> Result<(), AllocError> {
+        let _ = vector.as_slice();
+        let height = self.height;
+        self.height = 0;
+        let root = self.root.take();
+        let (root, height) = grow::<M, L>(self.alloc, height, root, number, vector, steps)?;
+        self.height = height;
+        self.root = Some(root);
+        Ok(())
+    }
+}
+
+// The root after an insertion, and its height.
+fn grow<M: Metric, L: Ledger>(
+    alloc: Global,
+    height: u32,
+    root: Option<Node>,
+    number: Number,
+    vector: &Vector,
+    steps: &mut Steps<L>,
+) -> Result<(Node, u32), AllocError>
+    requires width { IsWidth (length vector.now) }
+    requires root { IsRoot M.dist (length vector.now) (M.most (length vector.now)) height root }
+    requires low { height ≤ 6 }
+    ensures is { IfOk result (λ x. record { width = length vector.now; height = x.1; root = Some x.0 } ≡ grown_from M.dist (M.most (length vector.now)) number vector.now (length vector.now) height root) }
+    ensures counted { steps.new ≤ steps.old + 16384 }
+{
+    let Some(mut root) = root else {
+        return Ok((first_leaf(alloc, number, vector)?, 1));
+    };
+    match insert_below::<M, L>(alloc, &mut root, height, None, number, vector, steps)? {
+        None => Ok((root, height)),
+        Some(pair) => Ok((root_over(alloc, pair)?, height + 1)),
+    }
+}
+
+// A root with one vector.
+fn first_leaf(alloc: Global, number: Number, vector: &Vector) -> Result<Node, AllocError>
+    ensures { IfOk result (λ n. n ≡ Node.Leaf 0 (record { number = number; vector = vector.now; parent = 0 } ∷ [])) }
+{
+    let mut entries = Items::new(alloc);
+    entries.push(LeafEntry {
+        number,
+        vector: vector.copy()?,
+        parent: 0,
+    })?;
+    Ok(Node::Leaf { tag: 0, entries })
+}
+
+// A root above the halves of the one that was split.
+fn root_over(alloc: Global, pair: Pair) -> Result<Node, AllocError>
+    ensures { IfOk result (λ n. n ≡ Node.Inner 0 (pair.left ∷ pair.right ∷ [])) }
+{
+    let Pair { left, right } = pair;
+    let mut entries = Items::new(alloc);
+    entries.push(left)?;
+    entries.push(right)?;
+    Ok(Node::Inner { tag: 0, entries })
+}

@@ -1,0 +1,127 @@
+#!/usr/bin/env python3
+"""Computes trees and query costs from the rules of the M-tree, apart from the program.
+
+Vectors of two coordinates are inserted one by one, under the sum of the absolute differences. It
+prints the tables in the tests of `mtree_index`, in their order: the tree of 400 vectors, then the
+inner nodes alone of the tree of 700.
+
+A tree is the list of its nodes from the root on, each node before its children. A leaf is 0, its tag,
+how many entries it has, and each entry's number and parent distance. An inner node is 1, its tag, how
+many entries it has, and each entry's object, radius and parent distance.
+"""
+
+GREATEST = 510
+CAPACITY = 30
+
+
+def vectors(count):
+    """The coordinates are the upper five bits of a linear congruential sequence."""
+    state, drawn = 1, []
+    for _ in range(2 * count):
+        state = (1664525 * state + 1013904223) % 2**32
+        drawn.append(state // 2**27)
+    return list(zip(drawn[0::2], drawn[1::2]))
+
+
+def distance(a, b):
+    return abs(a[0] - b[0]) + abs(a[1] - b[1])
+
+
+class Entry:
+    """A leaf entry has a number, an inner entry a child and a covering radius."""
+
+    def __init__(self, vector, number=None, child=None, radius=0):
+        self.vector, self.number, self.child, self.radius, self.parent = vector, number, child, radius, 0
+
+
+class Node:
+    def __init__(self, leaf, tag, entries):
+        self.leaf, self.tag, self.entries = leaf, tag, entries
+
+
+def balanced(entries, pair):
+    """Which side takes each entry, and the sides' radii: the sides take their nearest entry in turns."""
+    side_of, turn = {}, 0
+    while len(side_of) < len(entries):
+        centre = entries[pair[turn % 2]].vector
+        free = [k for k in range(len(entries)) if k not in side_of]
+        side_of[min(free, key=lambda k: (distance(centre, entries[k].vector), k))] = turn % 2
+        turn += 1
+    radii = [
+        min(GREATEST, max(distance(entries[pair[s]].vector, e.vector) + e.radius for k, e in enumerate(entries) if side_of[k] == s))
+        for s in (0, 1)
+    ]
+    return side_of, radii
+
+
+def split(node):
+    """The two entries into which a node of 31 entries is split."""
+    entries = node.entries
+    pairs = [(i, j) for i in range(len(entries)) for j in range(i + 1, len(entries))]
+    partings = {pair: balanced(entries, pair) for pair in pairs}
+    best = min(pairs, key=lambda pair: (max(partings[pair][1]), pair))
+    side_of, radii = partings[best]
+    halves = []
+    for s in (0, 1):
+        members = [e for k, e in enumerate(entries) if side_of[k] == s]
+        centre = entries[best[s]].vector
+        for e in members:
+            e.parent = distance(centre, e.vector)
+        child = Node(node.leaf, node.tag if s == 0 else 0, members)
+        halves.append(Entry(centre, child=child, radius=radii[s]))
+    return halves
+
+
+def insert(node, above, number, vector):
+    """Inserts below a node whose routing object is `above`. Gives the two entries of a split, or none."""
+    if node.leaf:
+        new = Entry(vector, number=number)
+        new.parent = 0 if above is None else distance(above, vector)
+        node.entries.append(new)
+    else:
+        reach = [distance(e.vector, vector) for e in node.entries]
+        places = range(len(node.entries))
+        inside = [k for k in places if reach[k] <= node.entries[k].radius]
+        if inside:
+            place = min(inside, key=lambda k: (reach[k], k))
+        else:
+            place = min(places, key=lambda k: (reach[k] - node.entries[k].radius, k))
+        entry = node.entries[place]
+        entry.radius = max(entry.radius, reach[place])
+        halves = insert(entry.child, entry.vector, number, vector)
+        if halves:
+            for half in halves:
+                half.parent = 0 if above is None else distance(above, half.vector)
+            node.entries[place : place + 1] = halves
+    return split(node) if len(node.entries) > CAPACITY else None
+
+
+def grown(pairs):
+    """The root after these numbers and vectors were inserted into the empty tree."""
+    root = Node(True, 0, [])
+    for number, vector in pairs:
+        halves = insert(root, None, number, vector)
+        if halves:
+            root = Node(False, 0, halves)
+    return root
+
+
+def show(node, leaves):
+    if node.leaf and not leaves:
+        return
+    row = [0 if node.leaf else 1, node.tag, len(node.entries)]
+    for e in node.entries:
+        row += [e.number, e.parent] if node.leaf else [*e.vector, e.radius, e.parent]
+    print(*row, sep=", ")
+    if not node.leaf:
+        for e in node.entries:
+            show(e.child, leaves)
+
+
+def main():
+    for count, leaves in (400, True), (700, False):
+        show(grown([(k + 1, v) for k, v in enumerate(vectors(count))]), leaves)
+
+
+if __name__ == "__main__":
+    main()
