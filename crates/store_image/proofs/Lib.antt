@@ -1,0 +1,11 @@
+pub mod Numbers
+pub mod Placed
+pub mod Entries
+pub mod Reading
+pub mod Contents
+pub mod Writes
+pub mod Saved
+pub mod Searching
+pub mod Filling
+pub mod Taking
+pub mod Counting

@@ -1,0 +1,327 @@
+-- Numbers by slot after a save: which stand there, that none stands twice, and how many slots there are.
+use Rattle.std.proofs.Common.{◌≡◌, ◌⊎◌, inl, inr, ⊎_elim, ℕ, zero, suc, ◌+◌, ◌-◌, ◌*◌, ◌/◌, ◌%◌, ◌<◌, ◌≤◌, Bool, true, false, cond, not, ◌||◌, ◌&&◌, List, [], ◌∷◌, ◌++◌, length, map, replicate, refl, sym, ◌∙◌, ap, subst, arith, length-append}
+use Rattle.std.specs.Prelude.{◌==◌}
+use lib.Dec.{T}
+use Rattle.std.specs.List.{list_any, filter}
+use Rattle.std.specs.Ordering.{nat_cmp, is_eq, is_lt, eq_by_cmp}
+use Rattle.std.specs.declared.cmp.Ordering.{Ordering}
+use Rattle.std.specs.declared.cmp.Ordering.TheVariants.{Less, Equal, Greater}
+use Rattle.std.specs.FinMap as maps
+use Rattle.std.specs.FinMap.{is_sorted}
+use Rattle.std.specs.FinMap.Entries.{below_all}
+use Rattle.std.proofs.lemmas.Bool.{cases_Bool, cases_eq, cases_lt, cases_order, eqb-true, eq-eqb, ne_eqb, lt-ltb, le-ltb, false≢true, true≢false, or_parts, or_left, or_right, or_cases, and_from, and_parts}
+use Rattle.std.proofs.lemmas.List.{length-map, length-replicate}
+use Rattle.std.proofs.lemmas.List.Folds.{list_any-append}
+use Rattle.std.proofs.lemmas.Map.Views.{any-filter_same}
+use Rattle.std.proofs.lemmas.Nat.{div-mul-add, mod-mul-add, mod_below, le-div, div-add-mod'}
+use Rattle.vec_record.specs.Held as held
+use Rattle.page_layout.specs.Bodies.{slots_in_page}
+use Rattle.store_image.specs.Images.{Places}
+use Rattle.store_image.specs.Placing.{kept, unplaced, filled, padded, placed}
+use Rattle.store_image.proofs.Numbers.{has, has_push, Apart, Without}
+
+or_false : (b : Bool) → (b || false) ≡ b
+or_false true = refl
+or_false false = refl
+
+neither : (a b : Bool) → a ≡ false → b ≡ false → (a || b) ≡ false
+neither a b p q = rw (p, q) refl
+
+-- keys are compared as numbers
+pub tied_is : (q k : ℕ) → eq_by_cmp nat_cmp q k ≡ (k == q)
+tied_is q k = elim (cases_order q k) [
+  | inl same ↦
+      let lt = le-ltb q k (omega (arith, same)) in
+      let eq = eq-eqb q k same in
+      let back = eq-eqb k q (sym same) in
+      rw (lt, eq, back) refl
+  | inr (inl below) ↦
+      let lt = lt-ltb q k below in
+      let back = ne_eqb k q (λ is. omega (arith, is, below)) in
+      rw (lt, back) refl
+  | inr (inr above) ↦
+      let lt = le-ltb q k (omega (arith, above)) in
+      let eq = ne_eqb q k (λ is. omega (arith, is, above)) in
+      let back = ne_eqb k q (λ is. omega (arith, is, above)) in
+      rw (lt, eq, back) refl
+]
+
+pub any_tied : (ks : List ℕ) (q : ℕ) → list_any (eq_by_cmp nat_cmp q) ks ≡ has ks q
+any_tied [] q = refl
+any_tied (k ∷ ks) q = ap (λ (b : Bool). b || list_any (eq_by_cmp nat_cmp q) ks) (tied_is q k) ∙ ap (λ (b : Bool). (k == q) || b) (any_tied ks q)
+
+module _ (vectors : held.Rows) where
+  pub has_keys : (m : ℕ) → has (maps.keys vectors) m ≡ maps.contains_key vectors m
+  has_keys m = sym (maps.contains_key-keys vectors m ∙ any_tied (maps.keys vectors) m)
+
+  -- the numbers that stay
+  pub has_kept : (ns : List ℕ) (m : ℕ) → (m ≡ 0 → ⊥) → has (kept vectors ns) m ≡ (has ns m && maps.contains_key vectors m)
+  has_kept [] m some = refl
+  has_kept (n ∷ ns) m some = elim (cases_eq n m) [
+    | inl same ↦
+        let here : (n == m) ≡ true = eq-eqb n m same in
+        ap (λ (b : Bool). (cond b n 0 == m) || has (kept vectors ns) m) (ap (maps.contains_key vectors) same)
+        ∙ at_same here (has_kept ns m some)
+    | inr differ ↦
+        let other : (n == m) ≡ false = ne_eqb n m differ in
+        ap (λ (b : Bool). b || has (kept vectors ns) m) (neither (maps.contains_key vectors n) other)
+        ∙ has_kept ns m some
+        ∙ ap (λ (b : Bool). (b || has ns m) && maps.contains_key vectors m) (sym other)
+  ]
+    where
+      zero_away : (0 == m) ≡ false
+      zero_away = ne_eqb 0 m (λ is. some (sym is))
+
+      neither : (b : Bool) → (n == m) ≡ false → (cond b n 0 == m) ≡ false
+      neither true other = other
+      neither false other = zero_away
+
+      by_key : (c b : Bool) → (n == m) ≡ true → has (kept vectors ns) m ≡ (b && c) → ((cond c n 0 == m) || has (kept vectors ns) m) ≡ (((n == m) || b) && c)
+      by_key true b here rest = rw here refl
+      by_key false b here rest = rw (zero_away, rest) (nothing b (n == m))
+        where
+          nothing : (x y : Bool) → (x && false) ≡ ((y || x) && false)
+          nothing true true = refl
+          nothing true false = refl
+          nothing false true = refl
+          nothing false false = refl
+
+      at_same : (n == m) ≡ true → has (kept vectors ns) m ≡ (has ns m && maps.contains_key vectors m) → ((cond (maps.contains_key vectors m) n 0 == m) || has (kept vectors ns) m) ≡ (((n == m) || has ns m) && maps.contains_key vectors m)
+      at_same here rest = by_key (maps.contains_key vectors m) (has ns m) here rest
+
+  pub apart_kept : (ns : List ℕ) → Apart ns → Apart (kept vectors ns)
+  apart_kept [] apart = tt
+  apart_kept (n ∷ ns) apart = (of_key (maps.contains_key vectors n), apart_kept ns apart.1)
+    where
+      away : (n ≡ 0 → ⊥) → has ns n ≡ false → has (kept vectors ns) n ≡ false
+      away some none = has_kept ns n some ∙ ap (λ (b : Bool). b && maps.contains_key vectors n) none
+
+      of_key : (b : Bool) → (cond b n 0 ≡ 0) ⊎ (has (kept vectors ns) (cond b n 0) ≡ false)
+      of_key true = elim (cases_eq n 0) [
+        | inl is ↦ inl is
+        | inr some ↦ ⊎_elim (λ is. inl is) (λ none. inr (away some none)) apart.0
+      ]
+      of_key false = inl refl
+
+  pub length-kept : (ns : List ℕ) → length (kept vectors ns) ≡ length ns
+  length-kept ns = length-map ns (λ n. cond (maps.contains_key vectors n) n 0)
+
+-- keys that rise are apart
+above_all : (x : ℕ) (es : List (ℕ × List ℕ)) → T (below_all nat_cmp x es) → has (map (λ e. e.0) es) x ≡ false
+above_all x [] below = refl
+above_all x (e ∷ es) below =
+    let parts = and_split (is_lt (nat_cmp x e.0)) (below_all nat_cmp x es) below in
+    let other : (e.0 == x) ≡ false = sym (tied_is x e.0) ∙ not_tied (nat_cmp x e.0) parts.0 in
+    ap (λ (b : Bool). b || has (map (λ e. e.0) es) x) other ∙ above_all x es parts.1
+  where
+    and_split : (a b : Bool) → T (a && b) → T a × T b
+    and_split true b h = (tt, h)
+    and_split false b h = absurd h
+
+    not_tied : (o : Ordering) → T (is_lt o) → is_eq o ≡ false
+    not_tied Less h = refl
+    not_tied Equal h = absurd h
+    not_tied Greater h = refl
+
+apart_rising : (es : List (ℕ × List ℕ)) → T (is_sorted nat_cmp es) → Apart (map (λ e. e.0) es)
+apart_rising [] sorted = tt
+apart_rising (e ∷ es) sorted =
+    let parts = and_split (below_all nat_cmp e.0 es) (is_sorted nat_cmp es) sorted in
+    (inr (above_all e.0 es parts.0), apart_rising es parts.1)
+  where
+    and_split : (a b : Bool) → T (a && b) → T a × T b
+    and_split true b h = (tt, h)
+    and_split false b h = absurd h
+
+apart_filter : (p : ℕ → Bool) (ns : List ℕ) → Apart ns → Apart (filter p ns)
+apart_filter p [] apart = tt
+apart_filter p (n ∷ ns) apart = of_test (p n) (apart_filter p ns apart.1)
+  where
+    fewer : has ns n ≡ false → has (filter p ns) n ≡ false
+    fewer none = any-filter_same (λ k. k == n) p (p n) (λ k is. ap p (eqb-true k n is)) ns ∙ ap (λ (b : Bool). p n && b) none ∙ and_false (p n)
+      where
+        and_false : (b : Bool) → (b && false) ≡ false
+        and_false true = refl
+        and_false false = refl
+
+    of_test : (b : Bool) → Apart (filter p ns) → Apart (cond b (n ∷ filter p ns) (filter p ns))
+    of_test true rest = (⊎_elim (λ is. inl is) (λ none. inr (fewer none)) apart.0, rest)
+    of_test false rest = rest
+
+module _ (vectors : held.Rows) (places : Places) where
+  pub has_unplaced : (m : ℕ) → has (unplaced vectors places) m ≡ (not (has places m) && maps.contains_key vectors m)
+  has_unplaced m =
+      any-filter_same (λ k. k == m) (λ n. not (has places n)) (not (has places m)) (λ k is. ap (λ (n : ℕ). not (has places n)) (eqb-true k m is)) (maps.keys vectors)
+      ∙ ap (λ (b : Bool). not (has places m) && b) (has_keys vectors m)
+
+  pub apart_unplaced : Apart (unplaced vectors places)
+  apart_unplaced = apart_filter (λ n. not (has places n)) (maps.keys vectors) (apart_rising (maps.entries vectors) (maps.entries_sorted vectors))
+
+-- numbers that take free slots
+pub has_filled : (slots new : List ℕ) (m : ℕ) → (m ≡ 0 → ⊥) → has (filled slots new) m ≡ (has slots m || has new m)
+has_filled [] new m some = refl
+has_filled (n ∷ slots) [] m some = sym (or_false (has (n ∷ slots) m))
+has_filled (n ∷ slots) (k ∷ new) m some = elim (cases_Bool (n == 0)) [
+  | inl free ↦
+      let other : (n == m) ≡ false = ne_eqb n m (λ is. some (sym is ∙ eqb-true n 0 free)) in
+      ap (λ (b : Bool). has (cond b (k ∷ filled slots new) (n ∷ filled slots (k ∷ new))) m) free
+      ∙ ap (λ (b : Bool). (k == m) || b) (has_filled slots new m some)
+      ∙ turned (k == m) (has slots m) (has new m)
+      ∙ ap (λ (b : Bool). (b || has slots m) || ((k == m) || has new m)) (sym other)
+  | inr used ↦
+      ap (λ (b : Bool). has (cond b (k ∷ filled slots new) (n ∷ filled slots (k ∷ new))) m) used
+      ∙ ap (λ (b : Bool). (n == m) || b) (has_filled slots (k ∷ new) m some)
+      ∙ joined (n == m) (has slots m) ((k == m) || has new m)
+]
+  where
+    turned : (a b c : Bool) → (a || (b || c)) ≡ (b || (a || c))
+    turned true true c = refl
+    turned true false c = refl
+    turned false true c = refl
+    turned false false c = refl
+
+    joined : (a b c : Bool) → (a || (b || c)) ≡ ((a || b) || c)
+    joined true b c = refl
+    joined false b c = refl
+
+pub apart_filled : (slots new : List ℕ) → Apart slots → Apart new → Without new slots → Apart (filled slots new)
+apart_filled [] new slots_apart new_apart without = new_apart
+apart_filled (n ∷ slots) [] slots_apart new_apart without = slots_apart
+apart_filled (n ∷ slots) (k ∷ new) slots_apart new_apart without = elim (cases_Bool (n == 0)) [
+  | inl free ↦ subst (λ (b : Bool). Apart (cond b (k ∷ filled slots new) (n ∷ filled slots (k ∷ new)))) (sym free) (given, apart_filled slots new slots_apart.1 new_apart.1 behind)
+  | inr used ↦ subst (λ (b : Bool). Apart (cond b (k ∷ filled slots new) (n ∷ filled slots (k ∷ new)))) (sym used) (stays used, apart_filled slots (k ∷ new) slots_apart.1 new_apart (λ m some is. without m some (or_right (n == m) (has slots m) is)))
+]
+  where
+    behind : Without new slots
+    behind m some is = (or_parts (k == m) (has new m) (without m some (or_right (n == m) (has slots m) is))).1
+
+    given : (k ≡ 0) ⊎ (has (filled slots new) k ≡ false)
+    given = elim (cases_eq k 0) [
+      | inl is ↦ inl is
+      | inr some ↦ inr (has_filled slots new k some ∙ neither (has slots k) (has new k) (not_in_slots some) (of_new some))
+    ]
+      where
+        not_in_slots : (k ≡ 0 → ⊥) → has slots k ≡ false
+        not_in_slots some = elim (cases_Bool (has slots k)) [
+          | inl there ↦ absurd (false≢true (sym (without k some (or_right (n == k) (has slots k) there)) ∙ or_left (k == k) (has new k) (eq-eqb k k refl)))
+          | inr away ↦ away
+        ]
+
+        of_new : (k ≡ 0 → ⊥) → has new k ≡ false
+        of_new some = ⊎_elim (λ is. absurd (some is)) (λ none. none) new_apart.0
+
+    stays : (n == 0) ≡ false → (n ≡ 0) ⊎ (has (filled slots (k ∷ new)) n ≡ false)
+    stays used =
+        let some : (n ≡ 0 → ⊥) = λ is. false≢true (sym used ∙ eq-eqb n 0 is) in
+        inr (has_filled slots (k ∷ new) n some ∙ neither (has slots n) (has (k ∷ new) n) (⊎_elim (λ is. absurd (some is)) (λ none. none) slots_apart.0) (without n some (or_left (n == n) (has slots n) (eq-eqb n n refl))))
+
+-- either no slot is added, or every slot has a number
+pub full_or_same : (slots new : List ℕ) → has new 0 ≡ false → (length (filled slots new) ≡ length slots) ⊎ (has (filled slots new) 0 ≡ false)
+full_or_same [] new some = inr some
+full_or_same (n ∷ slots) [] some = inl refl
+full_or_same (n ∷ slots) (k ∷ new) some = elim (cases_Bool (n == 0)) [
+  | inl free ↦ subst Fine (sym free) (longer (k) (filled slots new) (or_parts (k == 0) (has new 0) some).0 (full_or_same slots new (or_parts (k == 0) (has new 0) some).1))
+  | inr used ↦ subst Fine (sym used) (longer n (filled slots (k ∷ new)) used (full_or_same slots (k ∷ new) some))
+]
+  where
+    Fine : Bool → Type 0
+    Fine b = (length (cond b (k ∷ filled slots new) (n ∷ filled slots (k ∷ new))) ≡ suc (length slots)) ⊎ (has (cond b (k ∷ filled slots new) (n ∷ filled slots (k ∷ new))) 0 ≡ false)
+
+    longer : (x : ℕ) (xs : List ℕ) → (x == 0) ≡ false → (length xs ≡ length slots) ⊎ (has xs 0 ≡ false) → (suc (length xs) ≡ suc (length slots)) ⊎ (((x == 0) || has xs 0) ≡ false)
+    longer x xs one (inl same) = inl (ap suc same)
+    longer x xs one (inr all) = inr (rw (one, all) refl)
+
+pub length-filled : (slots new : List ℕ) → length slots ≤ length (filled slots new)
+length-filled [] new = omega arith
+length-filled (n ∷ slots) [] = omega arith
+length-filled (n ∷ slots) (k ∷ new) = elim (cases_Bool (n == 0)) [
+  | inl free ↦ subst Long (sym free) (omega (arith, length-filled slots new))
+  | inr used ↦ subst Long (sym used) (omega (arith, length-filled slots (k ∷ new)))
+]
+  where
+    Long : Bool → Type 0
+    Long b = suc (length slots) ≤ length (cond b (k ∷ filled slots new) (n ∷ filled slots (k ∷ new)))
+
+-- the slots behind the last
+has_zeros : (n m : ℕ) → (m ≡ 0 → ⊥) → has (replicate n 0) m ≡ false
+has_zeros zero m some = refl
+has_zeros (suc n) m some = ap (λ (b : Bool). b || has (replicate n 0) m) (ne_eqb 0 m (λ is. some (sym is))) ∙ has_zeros n m some
+
+pub has_padded : (size : ℕ) (ns : List ℕ) (m : ℕ) → (m ≡ 0 → ⊥) → has (padded size ns) m ≡ has ns m
+has_padded size ns m some = list_any-append (λ k. k == m) ns (replicate ((size - length ns % size) % size) 0) ∙ ap (λ (b : Bool). has ns m || b) (has_zeros ((size - length ns % size) % size) m some) ∙ or_false (has ns m)
+
+apart_zeros : (n : ℕ) → Apart (replicate n 0)
+apart_zeros zero = tt
+apart_zeros (suc n) = (inl refl, apart_zeros n)
+
+apart_behind : (size : ℕ) (ns : List ℕ) (n : ℕ) → Apart ns → Apart (ns ++ replicate n 0)
+apart_behind size [] n apart = apart_zeros n
+apart_behind size (k ∷ ns) n apart = (⊎_elim (λ is. inl is) (λ none. of_zero none) apart.0, apart_behind size ns n apart.1)
+  where
+    of_zero : has ns k ≡ false → (k ≡ 0) ⊎ (has (ns ++ replicate n 0) k ≡ false)
+    of_zero none = elim (cases_eq k 0) [
+      | inl is ↦ inl is
+      | inr some ↦ inr (list_any-append (λ j. j == k) ns (replicate n 0) ∙ neither (has ns k) (has (replicate n 0) k) none (has_zeros n k some))
+    ]
+
+-- whole pages
+pub record Whole (long size total : ℕ) : Type 0 where
+  pub pages : ℕ
+  pub whole : total ≡ pages * size
+  pub more : long ≤ total
+  pub less : total < long + size
+
+pub whole_pages : (long size : ℕ) → 0 < size → Whole long size (long + (size - long % size) % size)
+whole_pages long size some = of_rest (long % size) (long / size) (div-add-mod' long size) (mod_below long size some)
+  where
+    of_rest : (r q : ℕ) → q * size + r ≡ long → r < size → Whole long size (long + (size - r) % size)
+    of_rest zero q is below =
+        let none : (size - 0) % size ≡ 0 = ap (λ (k : ℕ). k % size) (omega (arith)) ∙ mod-mul-add 1 size 0 some in
+        rw none (record { pages = q; whole = omega (arith, is); more = omega arith; less = omega (arith, some) })
+    of_rest (suc r) q is below =
+        let rest : (size - suc r) % size ≡ size - suc r = ap (λ (k : ℕ). k % size) (omega (arith)) ∙ mod-mul-add 0 size (size - suc r) (omega (arith, below)) in
+        rw rest (record { pages = q + 1; whole = omega (arith, is, below); more = omega arith; less = omega (arith, below) })
+
+-- after a save
+module _ (width : ℕ) (vectors : held.Rows) (places : Places) where
+  apart_new : Without (unplaced vectors places) (kept vectors places)
+  apart_new m some is =
+      let stood = (and_parts (has places m) (maps.contains_key vectors m) (sym (has_kept vectors places m some) ∙ is)).0 in
+      has_unplaced vectors places m ∙ ap (λ (b : Bool). not b && maps.contains_key vectors m) stood
+
+  abbrev pub saved : Places
+  saved = filled (kept vectors places) (unplaced vectors places)
+
+  pub has_saved : (m : ℕ) → (m ≡ 0 → ⊥) → has saved m ≡ maps.contains_key vectors m
+  has_saved m some =
+      has_filled (kept vectors places) (unplaced vectors places) m some
+      ∙ ap (λ (b : Bool). b || has (unplaced vectors places) m) (has_kept vectors places m some)
+      ∙ ap (λ (b : Bool). (has places m && maps.contains_key vectors m) || b) (has_unplaced vectors places m)
+      ∙ one_of (has places m) (maps.contains_key vectors m)
+    where
+      one_of : (a b : Bool) → ((a && b) || (not a && b)) ≡ b
+      one_of true true = refl
+      one_of true false = refl
+      one_of false b = refl
+
+  pub has_placed : (m : ℕ) → (m ≡ 0 → ⊥) → has (placed width vectors places) m ≡ maps.contains_key vectors m
+  has_placed m some = has_padded (slots_in_page width) saved m some ∙ has_saved m some
+
+  pub apart_saved : Apart places → Apart saved
+  apart_saved apart = apart_filled (kept vectors places) (unplaced vectors places) (apart_kept vectors places apart) (apart_unplaced vectors places) apart_new
+
+  pub apart_placed : Apart places → Apart (placed width vectors places)
+  apart_placed apart = apart_behind (slots_in_page width) saved ((slots_in_page width - length saved % slots_in_page width) % slots_in_page width) (apart_saved apart)
+
+  pub zero_unplaced : maps.contains_key vectors 0 ≡ false → has (unplaced vectors places) 0 ≡ false
+  zero_unplaced none = has_unplaced vectors places 0 ∙ ap (λ (b : Bool). not (has places 0) && b) none ∙ and_false (not (has places 0))
+    where
+      and_false : (b : Bool) → (b && false) ≡ false
+      and_false true = refl
+      and_false false = refl
+
+  pub length-placed : 0 < slots_in_page width → Whole (length saved) (slots_in_page width) (length (placed width vectors places))
+  length-placed some =
+      let zeros = (slots_in_page width - length saved % slots_in_page width) % slots_in_page width in
+      let long : length (placed width vectors places) ≡ length saved + zeros = length-append saved (replicate zeros 0) ∙ ap (λ (k : ℕ). length saved + k) (length-replicate zeros 0) in
+      subst (Whole (length saved) (slots_in_page width)) (sym long) (whole_pages (length saved) (slots_in_page width) some)

@@ -1,0 +1,25 @@
+use Rattle.std.proofs.Common.{◌≡◌, List, [], reverse, sym, ◌∙◌, ap, subst}
+use Rattle.std.proofs.lemmas.List.{reverse-reverse}
+use Rattle.std.proofs.lemmas.Result.{err_from_is_err_and}
+use Rattle.std.specs.FinMap as maps
+use Rattle.page_layout.specs.Heads.{values_of}
+use Rattle.page_layout.specs.Bodies.{Rows}
+use Rattle.store_image.specs.Steps.{Taking}
+use Rattle.store_image.proofs.Taking.{taking_start, popped}
+use Rattle.store_image.proofs.loading.take_rows.Goals as goal
+
+pub loop-row-init : goal.loop-row-init
+loop-row-init c =
+    let v = values_of c.args.params.now in
+    let all = c.args.rows.items in
+    let back : reverse c.reverse.new.self.items ≡ all = ap reverse c.reverse.ensures.items ∙ reverse-reverse all in
+    rw (back, c.new-numbers.ensures.items) (taking_start v all c.new-records.result c.requires.lawful (c.new-records.ensures ∙ (λ i. record { width = c.width.ensures.value i; vectors = maps.empty })))
+
+pub returns-in_err-take_slot : goal.returns-in_err-take_slot
+returns-in_err-take_slot c =
+    let all = c.args.rows.items in
+    let p = err_from_is_err_and c.from_residual.result c.from_residual.ensures.1 in
+    let v = values_of c.args.params.now in
+    let rest = reverse c.pop.new.self.items in
+    let next = popped c.loop-row.left.items c.pop.new.self.items c.in-Some.row c.in-Some.ensures.items in
+    rw (p.1, p.2) (c.in_err-take_slot.ensures all rest (subst (λ (l : Rows). Taking v all l c.loop-row.numbers.items c.loop-row.records) next c.loop-row.invariant))

@@ -1,0 +1,111 @@
+-- What the content of a file is as a store: the verdict of an opening, the records, the batches and the parameters. All
+-- are functions of what the gate checks come to.
+use Rattle.std.specs.Prelude.{◌≡◌, ◌⊎◌, ◌↔◌, ℕ, true, List, [], ◌∷◌, drop, get_or, Option, Some, None, Result, Ok, Err}
+use Rattle.std.specs.List.{flat_map}
+use Rattle.std.specs.FinMap as map
+use Rattle.vec_record.specs.Held as held
+use Rattle.vec_record.specs.Limits.{width_of}
+use Rattle.page_gate.specs.declared.fault.OpenFault as gate
+use Rattle.page_gate.specs.declared.fault.OpenFault.TheVariants as open_fault
+use Rattle.page_gate.specs.Gate.{number_4, count_of, is_blank, opening, Opening, Refuses, Opens}
+use Rattle.page_layout.specs.Heads.{Values, HeadValue, IsHead, head_page, values_in}
+use Rattle.page_layout.specs.Bodies.{rows_in}
+use Rattle.store_image.specs.declared.fault.StoreFault.{StoreFault}
+use Rattle.store_image.specs.declared.fault.StoreFault.TheVariants.{Foreign, Damaged, Memory}
+use Rattle.store_image.specs.Images.{Image, vectors_of}
+use Rattle.store_image.specs.Loading.{load_of}
+
+-- what page 1 of a list of pages has as parameters and as the number of batches, and what its used slots hold
+abbrev pub values_in_pages : List (List ℕ) → Values
+values_in_pages pages = values_in (get_or pages 0 [])
+
+abbrev pub batches_in_pages : List (List ℕ) → ℕ
+batches_in_pages pages = number_4 28 (get_or pages 0 [])
+
+abbrev pub vectors_in_pages : List (List ℕ) → held.Rows
+vectors_in_pages pages = vectors_of (flat_map (rows_in (width_of (values_in_pages pages).metric (values_in_pages pages).dim)) (drop 1 pages))
+
+-- the refusal of a load, as that of an opening
+abbrev pub refusal_of : Result Image StoreFault → Option gate.OpenFault
+refusal_of (Ok image) = None
+refusal_of (Err Foreign) = Some open_fault.Foreign
+refusal_of (Err (Damaged page offset)) = Some (open_fault.Damaged page offset)
+refusal_of (Err Memory) = Some open_fault.Memory
+
+abbrev pub verdict : Opening → Option gate.OpenFault
+verdict (Refuses fault) = Some fault
+verdict (Opens pages) = refusal_of (load_of pages)
+
+abbrev pub records_by : Opening → held.Rows
+records_by (Refuses fault) = map.empty
+records_by (Opens pages) = vectors_in_pages pages
+
+abbrev pub batches_by : Opening → ℕ
+batches_by (Refuses fault) = 0
+batches_by (Opens pages) = batches_in_pages pages
+
+abbrev pub params_by : Opening → Option Values
+params_by (Refuses fault) = None
+params_by (Opens pages) = Some (values_in_pages pages)
+
+-- the first check of an opening that fails, the gate checks before the load checks; none where the store opens
+unfoldable pub refusal_on : List ℕ → Option gate.OpenFault
+refusal_on c = verdict (opening c)
+
+-- the records, the number of batches and the parameters of a content
+unfoldable pub records_on : List ℕ → held.Rows
+records_on c = records_by (opening c)
+
+unfoldable pub batches_on : List ℕ → ℕ
+batches_on c = batches_by (opening c)
+
+unfoldable pub params_on : List ℕ → Option Values
+params_on c = params_by (opening c)
+
+-- a sound content is blank or opens
+abbrev pub IsSound : List ℕ → Type 0
+IsSound c = (is_blank c ≡ true) ⊎ (refusal_on c ≡ None)
+
+-- an open store with these parameters, records and number of batches
+pub record IsStore (v : Values) (rows : held.Rows) (batches : ℕ) (c : List ℕ) : Type 0 where
+  pub opens : refusal_on c ≡ None
+  pub params : params_on c ≡ Some v
+  pub records : records_on c ≡ rows
+  pub batches_are : batches_on c ≡ batches
+
+-- what two contents have alike as stores
+pub record AreAlike (c d : List ℕ) : Type 0 where
+  pub refusal : refusal_on c ≡ refusal_on d
+  pub records : records_on c ≡ records_on d
+  pub batches : batches_on c ≡ batches_on d
+  pub params : params_on c ≡ params_on d
+  pub sound : IsSound c ↔ IsSound d
+
+-- contents that the gate checks answer alike, with the same list of pages, are alike as stores
+abbrev pub SameOpeningsAreAlike : Type 0
+SameOpeningsAreAlike = (c d : List ℕ) → opening c ≡ opening d → AreAlike c d
+
+-- a list of pages that loads is, behind the gate, a store with what was loaded
+abbrev pub LoadsAreStores : Type 0
+LoadsAreStores =
+    (c : List ℕ) (pages : List (List ℕ)) (image : Image) → opening c ≡ Opens pages → load_of pages ≡ Ok image
+    → IsStore image.head.values image.records.vectors image.head.batches c
+
+-- a store that no batch has come to
+pub record IsNew (h : HeadValue) : Type 0 where
+  pub lawful : IsHead h
+  pub pages : h.pages ≡ 2
+  pub batches : h.batches ≡ 0
+  pub count : h.count ≡ 0
+
+-- what a new store loads as: no records
+abbrev pub new_image : HeadValue → Image
+new_image h = record { head = h; records = record { width = width_of h.values.metric h.values.dim; vectors = map.empty }; places = [] }
+
+-- the head page of a new store, alone, loads as no records
+abbrev pub NewStoresLoad : Type 0
+NewStoresLoad = (h : HeadValue) → IsNew h → load_of (head_page h ∷ []) ≡ Ok (new_image h)
+
+-- the gate counts as many pages as a head page says
+abbrev pub HeadsCountPages : Type 0
+HeadsCountPages = (h : HeadValue) → IsHead h → count_of (head_page h) ≡ h.pages

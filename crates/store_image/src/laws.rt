@@ -1,0 +1,33 @@
+//! Laws over the definitions. Each is the contract of a function that does nothing.
+
+ghost use Rattle.store_image.specs.Stores.{SameOpeningsAreAlike, LoadsAreStores, NewStoresLoad, HeadsCountPages};
+
+use page_layout::laws::{heads_have_one_spelling, written_are_pages};
+
+/// Contents that the gate checks answer alike, with the same list of pages, are alike as stores: in the
+/// refusal of an opening, the records, the number of batches, the parameters, and whether they are sound.
+pub fn same_openings_are_alike()
+    ensures { SameOpeningsAreAlike }
+{}
+
+/// A list of pages that loads is, behind the gate, a store with the records, the parameters and the
+/// number of batches that were loaded.
+pub fn loads_are_stores()
+    ensures { LoadsAreStores }
+{}
+
+/// The head page of a new store, alone, loads as no records.
+pub fn new_stores_load()
+    ensures { NewStoresLoad }
+{
+    heads_have_one_spelling();
+    written_are_pages();
+}
+
+/// The gate counts as many pages as a head page says.
+pub fn heads_count_pages()
+    ensures { HeadsCountPages }
+{
+    heads_have_one_spelling();
+    written_are_pages();
+}

@@ -1,0 +1,114 @@
+-- What an accepted batch leaves, and what a crash leaves at each moment of its saving.
+use Rattle.std.proofs.Common.{◌≡◌, ◌⊎◌, inl, inr, ℕ, ◌+◌, ◌++◌, Bool, true, false, List, map, drop, count_by, Result, Ok, refl, sym, ap, subst, ◌∙◌, codes}
+use Rattle.vec_record.specs.Held.{Held, Rows}
+use Rattle.vec_record.specs.declared.change.Change.{Change}
+use Rattle.vec_record.specs.declared.event.Event.{Event}
+use Rattle.vec_record.specs.declared.kind.MetricKind.{MetricKind}
+use Rattle.plain_dbscan.specs.declared.marks.Mark.{Mark}
+use Rattle.site_disk.specs.State.{SiteState}
+use Rattle.page_gate.specs.Gate.{opening, Opens}
+use Rattle.page_layout.specs.Heads.{HeadValue, Values, plain}
+use Rattle.page_layout.specs.Bodies as body
+use Rattle.store_image.specs.declared.loaded.Loaded.{Loaded}
+use Rattle.store_image.specs.Images.{Places, image_of, number_of}
+use Rattle.store_image.specs.Loading.{load_of, slots_in}
+use Rattle.store_image.specs.Placing.{AreAt, saved_pages}
+use Rattle.store_image.specs.Stores.{IsStore, LoadsAreStores}
+use Rattle.warehouse_core.specs.declared.refusal.Refusal.{Refusal}
+use Rattle.warehouse_core.specs.Applying.{Accepts, IsAfter, IsBefore, Steps, due}
+use Rattle.warehouse_core.specs.Batches.{events_of, marks_on, rows_after}
+use Rattle.warehouse_core.specs.Inside.{CanHold, Saves, Stands, state_of}
+use Rattle.warehouse_core.specs.Receipts.{batch_text, decline_text, growth_text, is_deletion, is_insertion, receipt_text}
+use Rattle.warehouse_core.specs.States.{State}
+use Rattle.warehouse_core.proofs.Moments.{opened_before, weaker}
+
+ok_same : {A E : Type 0} (x y : A) → ◌≡◌ {A = Result A E} (Ok x) (Ok y) → x ≡ y
+ok_same x y e = cc e
+
+-- pages are at one head and have one list of numbers by slot
+same_head : (pages : List (List ℕ)) (h k : HeadValue) (here there : Places) → AreAt h here pages → AreAt k there pages → h ≡ k
+same_head pages h k here there a b = ok_same h k (sym a.head ∙ b.head)
+
+same_slots : (pages : List (List ℕ)) (h k : HeadValue) (here there : Places) → AreAt h here pages → AreAt k there pages → here ≡ there
+same_slots pages h k here there a b =
+    let head = same_head pages h k here there a b in
+    let rows : a.rows ≡ b.rows = ok_same a.rows b.rows (sym a.slots ∙ (ap (λ (x : HeadValue). slots_in x.values 2 (drop 1 pages)) head ∙ b.slots)) in
+    a.numbers ∙ (ap (λ (rs : body.Rows). map number_of rs) rows ∙ sym b.numbers)
+
+module _ (changes : List Change) (was is : Loaded) (before after : List (List ℕ)) (records : Held) (at : AreAt (plain was.head) was.places before)
+    (rows_are : records.vectors ≡ rows_after (plain was.head).values was.records.vectors changes) (pages_are : after ≡ saved_pages (plain was.head) was.places records.vectors) (loads : load_of after ≡ Ok (image_of is))
+    (records_are : is.records ≡ records) (values_are : (plain is.head).values ≡ (plain was.head).values) (batches_are : is.head.batches ≡ was.head.batches + 1) where
+  vectors_are : is.records.vectors ≡ records.vectors
+  vectors_are = ap (λ (h : Held). h.vectors) records_are
+
+  placed_as : (h : HeadValue) (places : Places) → AreAt h places before → after ≡ saved_pages h places is.records.vectors
+  placed_as h places here =
+      pages_are ∙ (ap (λ (x : HeadValue). saved_pages x was.places records.vectors) (same_head before (plain was.head) h was.places places at here)
+      ∙ (ap (λ (ps : Places). saved_pages h ps records.vectors) (same_slots before (plain was.head) h was.places places at here) ∙ ap (saved_pages h places) (sym vectors_are)))
+
+  module _ (failed : Bool) (text more : List ℕ) (receipt : more ≡ text ++ receipt_text (was.head.batches + 1) changes (events_of (plain was.head).values was.records.vectors changes)) where
+    taken : (body : List ℕ) → due (state_of was before true failed) body ≡ Ok changes → Accepts body (state_of was before true failed) (state_of is after true false) text more
+    taken body accepted = record {
+      changes = changes;
+      accepted = accepted;
+      values = values_are;
+      rows = vectors_are ∙ rows_are;
+      batches = batches_are;
+      stored = refl;
+      failed = refl;
+      receipt = receipt;
+      pages = placed_as;
+      loads = record { image = image_of is; loads = loads; values_are = refl; rows_are = refl; batches_are = refl };
+    }
+
+    pub accepts : (stored : Bool) (w : State) (body : List ℕ) → state_of was before stored failed ≡ w → w.stored ≡ true → due w body ≡ Ok changes → Accepts body w (state_of is after stored false) text more
+    accepts stored w body view has accepted =
+        let s : stored ≡ true = ap (λ (x : State). x.stored) view ∙ has in
+        let P : State → Type 0 = λ x. due x body ≡ Ok changes → Accepts body x (state_of is after true false) text more in
+        let whole : state_of was before true failed ≡ w = ap (λ (b : Bool). state_of was before b failed) (sym s) ∙ view in
+        let Q : Bool → Type 0 = λ b. Accepts body w (state_of is after b false) text more in
+        subst Q (sym s) (subst P whole (taken body) accepted)
+
+  -- it stands again
+  pub stands_again : (kind : MetricKind) (marks : List (ℕ × Mark)) → (plain was.head).values.metric ≡ kind → AreAt (plain is.head) is.places after → CanHold (plain was.head).values records → marks ≡ marks_on (plain was.head).values records.vectors → Stands kind is after marks
+  stands_again kind marks kind_is here holds marks_are =
+      let P : Values → Type 0 = λ v. CanHold v is.records in
+      let Q : Held → Type 0 = λ h. CanHold (plain was.head).values h in
+      record {
+        at = here;
+        loads = loads;
+        kind_is = ap (λ (v : Values). v.metric) values_are ∙ kind_is;
+        holds = subst P (sym values_are) (subst Q (sym records_are) holds);
+        marks_are = marks_are ∙ (ap (marks_on (plain was.head).values) (sym vectors_are) ∙ ap (λ (v : Values). marks_on v is.records.vectors) (sym values_are));
+      }
+
+-- the receipt of a batch, by its counts
+pub counted_receipt : (batch insertions deletions : ℕ) (changes : List Change) (events due_events : List Event) (line : List ℕ) → line ≡ batch_text batch insertions deletions ++ (growth_text events ++ (decline_text events ++ codes "\n"))
+    → insertions ≡ count_by is_insertion changes → deletions ≡ count_by is_deletion changes → events ≡ due_events → line ≡ receipt_text batch changes due_events
+counted_receipt batch insertions deletions changes events due_events line is ins del evs =
+    is
+    ∙ (ap (λ (n : ℕ). batch_text batch n deletions ++ (growth_text events ++ (decline_text events ++ codes "\n"))) ins
+    ∙ (ap (λ (n : ℕ). batch_text batch (count_by is_insertion changes) n ++ (growth_text events ++ (decline_text events ++ codes "\n"))) del
+    ∙ ap (receipt_text batch changes) evs))
+
+-- the moments of a saving
+module _ (law : LoadsAreStores) (kind : MetricKind) (was : Loaded) (before : List (List ℕ)) (marks : List (ℕ × Mark)) (standing : Stands kind was before marks) (changes : List Change) (rows : Rows)
+    (rows_are : rows ≡ rows_after (plain was.head).values was.records.vectors changes) where
+  module _ (after : List (List ℕ)) (result : Result Unit Refusal) (a b : SiteState) (saves : Saves before (plain was.head).values rows (was.head.batches + 1) after result a b) where
+    crossed : (stored failed : Bool) (body : List ℕ) → due (state_of was before stored failed) body ≡ Ok changes → Steps body result (state_of was before stored failed) a b
+    crossed stored failed body accepted =
+        let w = state_of was before stored failed in
+        let R : Rows → Type 0 = λ r. (c : List ℕ) → IsStore (plain was.head).values r (was.head.batches + 1) c → IsAfter body w c in
+        let later : R rows = subst R (sym rows_are) (λ c store. record { changes = changes; accepted = accepted; store = store }) in
+        let sooner : (c : List ℕ) → opening c ≡ Opens before → IsBefore w c = λ c opens. opened_before law kind was before marks standing stored failed w c refl opens in
+        let either : (c : List ℕ) → (opening c ≡ Opens before) ⊎ IsStore (plain was.head).values rows (was.head.batches + 1) c → IsBefore w c ⊎ IsAfter body w c = λ c e. elim e [ inl x ↦ inl (sooner c x) | inr y ↦ inr (later c y) ] in
+        record {
+          safe = weaker a b (λ s c. (s ≡ a.said) × ((opening c ≡ Opens before) ⊎ IsStore (plain was.head).values rows (was.head.batches + 1) c)) (λ s c. (s ≡ a.said) × (IsBefore w c ⊎ IsAfter body w c)) saves.safe (λ s c m. (m.0, either c m.1));
+          said = saves.said;
+          unsaved = λ want. weaker a b (λ s c. (s ≡ a.said) × (opening c ≡ Opens before)) (λ s c. (s ≡ a.said) × IsBefore w c) (saves.unsaved want) (λ s c m. (m.0, sooner c m.1));
+        }
+
+    pub saved_steps : (stored failed : Bool) (w : State) (body : List ℕ) → state_of was before stored failed ≡ w → due w body ≡ Ok changes → Steps body result w a b
+    saved_steps stored failed w body view accepted =
+        let P : State → Type 0 = λ x. due x body ≡ Ok changes → Steps body result x a b in
+        subst P view (crossed stored failed body) accepted

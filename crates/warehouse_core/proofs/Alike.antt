@@ -1,0 +1,80 @@
+-- The marks of records depend on the distances of their vectors alone.
+use Rattle.std.proofs.Common.{◌≡◌, ℕ, ◌≤◌, true, false, cond, ◌&&◌, nat_le, List, [], ◌∷◌, length, find, filter, map, Option, Some, None, refl, ap, subst, ◌∙◌, arith}
+use Rattle.std.specs.List.{AllByRecursion}
+use Rattle.std.specs.Option.{is_some}
+use Rattle.std.specs.Ordering.{nat_cmp, eq_by_cmp}
+use Rattle.std.specs.FinMap.Entries.{find as value_at}
+use Rattle.std.proofs.lemmas.Bool.{and_parts, leb-true}
+use Rattle.std.proofs.lemmas.Bool.Decides.{nat_tests}
+use Rattle.std.proofs.lemmas.Option.{none-some, same_Some}
+use Rattle.vec_record.specs.Distance.{distance_of}
+use Rattle.vec_record.specs.Limits.{are_within, greatest_dim, is_between, width_of}
+use Rattle.vec_record.specs.Vectors.{IsVector, IsWidth}
+use Rattle.vec_record.specs.declared.kind.MetricKind.{MetricKind}
+use Rattle.vec_record.specs.declared.kind.MetricKind.TheVariants.{L1, Max, Hamming}
+use Rattle.plain_dbscan.specs.declared.marks.Mark.TheVariants.{Core, Border}
+use Rattle.plain_dbscan.specs.Chains.{label_of}
+use Rattle.plain_dbscan.specs.Marks.{Density, density, Entries, numbers_of, within, is_near, is_core, cluster_of, anchor_of, outer_mark, mark_of, marks_of}
+use Rattle.page_layout.specs.Heads.{Values}
+use Rattle.store_image.specs.Placing.{CanStand}
+use Rattle.warehouse_core.specs.Batches.{density_by}
+
+module _ (d e : Density) (es : Entries) (near : (a b : ℕ) → is_near d es a b ≡ is_near e es a b) (minpts : d.minpts ≡ e.minpts) where
+  cores_alike : is_core d es ≡ is_core e es
+  cores_alike i a = is_some (value_at nat_cmp a es) && nat_le (minpts i) (length (filter (λ b. near a b i) (numbers_of es)))
+
+  clusters_alike : cluster_of d es ≡ cluster_of e es
+  clusters_alike i a = label_of (cores_alike i) (λ x y. near x y i) (filter (cores_alike i) (numbers_of es)) a
+
+  anchors_alike : (a : ℕ) → anchor_of d es a ≡ anchor_of e es a
+  anchors_alike a i = find (λ b. near a b i) (filter (cores_alike i) (numbers_of es))
+
+  outer_alike : (o : Option ℕ) → outer_mark d es o ≡ outer_mark e es o
+  outer_alike None = refl
+  outer_alike (Some b) = ap (λ (f : ℕ → ℕ). Border (f b)) clusters_alike
+
+  outers_alike : (a : ℕ) → outer_mark d es (anchor_of d es a) ≡ outer_mark e es (anchor_of e es a)
+  outers_alike a = ap (outer_mark d es) (anchors_alike a) ∙ outer_alike (anchor_of e es a)
+
+  mark_alike : (a : ℕ) → mark_of d es a ≡ mark_of e es a
+  mark_alike a i = cond (cores_alike i a) (Core (clusters_alike i a)) (outers_alike a i)
+
+  marks_alike : marks_of d es ≡ marks_of e es
+  marks_alike i = map (λ (a : ℕ). (a, mark_alike a i)) (numbers_of es)
+
+pub same_key : (q k : ℕ) → eq_by_cmp nat_cmp q k ≡ true → k ≡ q
+same_key q k e = grind (arith, nat_tests)
+
+-- what is found among entries has what each of them has
+pub found_so : (P : ℕ × List ℕ → Type 0) (es : Entries) (q : ℕ) (v : List ℕ) → AllByRecursion P es → value_at nat_cmp q es ≡ Some v → P (q, v)
+found_so P [] q v all is = absurd (none-some _ is)
+found_so P (e ∷ es) q v all is =
+    elim (eq_by_cmp nat_cmp q e.0) as (λ b. eq_by_cmp nat_cmp q e.0 ≡ b → cond b (Some e.1) (value_at nat_cmp q es) ≡ Some v → P (q, v)) [
+      | true ↦ λ tied here. let Q : ℕ → Type 0 = λ n. P (n, v) in subst Q (same_key q e.0 tied) (let R : List ℕ → Type 0 = λ u. P (e.0, u) in subst R (same_Some _ _ here) all.0)
+      | false ↦ λ apart later. found_so P es q v all.1 later
+    ] refl is
+
+within_alike : (d e : Density) (o p : Option (List ℕ)) → d.eps ≡ e.eps → ((u v : List ℕ) → o ≡ Some u → p ≡ Some v → d.dist u v ≡ e.dist u v) → within d o p ≡ within e o p
+within_alike d e None p eps dist = refl
+within_alike d e (Some u) None eps dist = refl
+within_alike d e (Some u) (Some v) eps dist = λ i. nat_le (dist u v refl refl i) (eps i)
+
+-- so a distance that is that of the metric, over vectors of the width, gives the marks by the metric
+pub marks_by : (v : Values) (es : Entries) (dist : List ℕ → List ℕ → ℕ) → AllByRecursion (CanStand v) es
+    → ((a b : List ℕ) → IsVector (width_of v.metric v.dim) a → IsVector (width_of v.metric v.dim) b → dist a b ≡ distance_of v.metric a b) → marks_of (density dist v.eps v.minpts) es ≡ marks_of (density_by v) es
+marks_by v es dist all law =
+    marks_alike (density dist v.eps v.minpts) (density_by v) es (λ a b.
+    within_alike (density dist v.eps v.minpts) (density_by v) (value_at nat_cmp a es) (value_at nat_cmp b es) refl (λ x y is_x is_y.
+    law x y (found_so (CanStand v) es a x all is_x).vector (found_so (CanStand v) es b y all is_y).vector)) refl
+
+-- the width of lawful parameters
+dim_within : (m : MetricKind) (dim eps minpts cap : ℕ) → are_within m dim eps minpts cap ≡ true → (1 ≤ dim) × (dim ≤ greatest_dim m)
+dim_within m dim eps minpts cap e =
+    let parts = and_parts (is_between 1 (greatest_dim m) dim) _ e in
+    let both = and_parts (nat_le 1 dim) (nat_le dim (greatest_dim m)) parts.0 in
+    (leb-true _ _ both.0, leb-true _ _ both.1)
+
+pub lawful_width : (m : MetricKind) (dim eps minpts cap : ℕ) → are_within m dim eps minpts cap ≡ true → IsWidth (width_of m dim)
+lawful_width L1 dim eps minpts cap e = let b = dim_within L1 dim eps minpts cap e in record { some = omega (arith, b.0); small = omega (arith, b.1) }
+lawful_width Max dim eps minpts cap e = let b = dim_within Max dim eps minpts cap e in record { some = omega (arith, b.0); small = omega (arith, b.1) }
+lawful_width Hamming dim eps minpts cap e = let b = dim_within Hamming dim eps minpts cap e in record { some = omega (arith, b.0); small = omega (arith, b.1) }

@@ -1,0 +1,176 @@
+-- Changes that can apply, one after another, with the marks and the events.
+use Rattle.std.proofs.Common.{◌≡◌, ℕ, ◌+◌, ◌-◌, ◌≤◌, Bool, true, false, cond, nat_le, List, [], ◌∷◌, ◌++◌, Option, Some, None, Result, Ok, Err, IsOk, refl, sym, ap, subst, ◌∙◌, arith, append_assoc, append-nil}
+use lib.Dec.{T}
+use Rattle.std.specs.List.{AllByRecursion}
+use Rattle.std.specs.Option.{is_some}
+use Rattle.std.specs.Result.{is_ok}
+use Rattle.std.specs.Ordering.{nat_cmp, eq_by_cmp, is_lt}
+use Rattle.std.specs.Cmp.{nat_cmp_total}
+use Rattle.std.specs.FinMap as maps
+use Rattle.std.specs.FinMap.Entries.{find as value_at, is_sorted, below_all}
+use Rattle.std.proofs.lemmas.Bool.{false≢true, true≢false}
+use Rattle.std.proofs.lemmas.Bool.Decides.{nat_tests}
+use Rattle.std.proofs.lemmas.Option.{none-some, same_Some}
+use Rattle.vec_record.specs.Held.{Held, Rows}
+use Rattle.vec_record.specs.Limits.{width_of}
+use Rattle.vec_record.specs.declared.change.Change.{Change}
+use Rattle.vec_record.specs.declared.change.Change.TheVariants.{Insert, Delete}
+use Rattle.vec_record.specs.declared.event.Event.{Event}
+use Rattle.plain_dbscan.specs.declared.marks.Mark.{Mark}
+use Rattle.plain_dbscan.specs.Cases.{cases_of}
+use Rattle.page_layout.specs.Heads.{Values}
+use Rattle.store_image.specs.Placing.{CanStand}
+use Rattle.batch_text.specs.After.{CanApply, after, after_from, and_then, changed}
+use Rattle.batch_text.specs.Batch.{Fits, IsSpelledChange}
+use Rattle.batch_text.specs.declared.faults.CheckFault.{CheckFault}
+use Rattle.batch_text.specs.declared.faults.CheckFault.TheVariants.{Repeated, Unknown, Full}
+use Rattle.warehouse_core.specs.Batches.{events_of, marks_on, or_else, rows_after}
+use Rattle.plain_dbscan.specs.Marks.{Entries}
+use Rattle.warehouse_core.specs.Inside.{AreHeld, CanHold}
+use Rattle.warehouse_core.proofs.Alike.{found_so, same_key}
+use Rattle.warehouse_core.proofs.Found.{both, true_of}
+
+-- a key that is found stands above all that are below
+found_above : (x : ℕ) (es : Entries) (q : ℕ) (v : List ℕ) → T (below_all nat_cmp x es) → value_at nat_cmp q es ≡ Some v → eq_by_cmp nat_cmp q x ≡ false
+found_above x [] q v below is = absurd (none-some _ is)
+found_above x (e ∷ es) q v below is =
+    let parts = both (is_lt (nat_cmp x e.0)) (below_all nat_cmp x es) below in
+    let less = true_of (is_lt (nat_cmp x e.0)) parts.0 in
+    elim (eq_by_cmp nat_cmp q e.0) as (λ b. eq_by_cmp nat_cmp q e.0 ≡ b → cond b (Some e.1) (value_at nat_cmp q es) ≡ Some v → eq_by_cmp nat_cmp q x ≡ false) [
+      | true ↦ λ tied here. grind (arith, nat_tests, tied, less)
+      | false ↦ λ apart later. found_above x es q v parts.1 later
+    ] refl is
+
+tied_itself : (q : ℕ) → eq_by_cmp nat_cmp q q ≡ true
+tied_itself q = grind (arith, nat_tests)
+
+-- what holds of all that is found holds of each entry
+each_found : (P : ℕ × List ℕ → Type 0) (es : Entries) → T (is_sorted nat_cmp es) → ((q : ℕ) (v : List ℕ) → value_at nat_cmp q es ≡ Some v → P (q, v)) → AllByRecursion P es
+each_found P [] sorted found = tt
+each_found P (e ∷ es) sorted found =
+    let parts = both (below_all nat_cmp e.0 es) (is_sorted nat_cmp es) sorted in (
+      found e.0 e.1 (ap (λ (b : Bool). cond b (Some e.1) (value_at nat_cmp e.0 es)) (tied_itself e.0)),
+      each_found P es parts.1 (λ q v is. found q v (ap (λ (b : Bool). cond b (Some e.1) (value_at nat_cmp q es)) (found_above e.0 es q v parts.0 is) ∙ is)),
+    )
+
+-- what holds of each record, and of the one that is inserted, holds of each after the change
+abbrev OfInserted : (ℕ × List ℕ → Type 0) → Change → Type 0
+OfInserted P (Insert n v) = P (n, v)
+OfInserted P (Delete n) = Unit {0}
+
+module _ (P : ℕ × List ℕ → Type 0) (rows : Rows) (all : AllByRecursion P (maps.entries rows)) where
+  kept_so : (q : ℕ) (v : List ℕ) → maps.get rows q ≡ Some v → P (q, v)
+  kept_so q v is = found_so P (maps.entries rows) q v all (sym (maps.get-entries rows q) ∙ is)
+
+  changed_so : (c : Change) → OfInserted P c → (q : ℕ) (v : List ℕ) → maps.get (changed rows c) q ≡ Some v → P (q, v)
+  changed_so (Insert n w) new q v is =
+      elim (eq_by_cmp nat_cmp q n) as (λ b. eq_by_cmp nat_cmp q n ≡ b → cond b (Some w) (maps.get rows q) ≡ Some v → P (q, v)) [
+        | true ↦ λ tied here. let Q : ℕ → Type 0 = λ k. P (k, v) in subst Q (same_key q n tied) (let R : List ℕ → Type 0 = λ u. P (n, u) in subst R (same_Some _ _ here) new)
+        | false ↦ λ apart later. kept_so q v later
+      ] refl (sym (maps.get-insert nat_cmp_total rows n w q) ∙ is)
+  changed_so (Delete n) new q v is =
+      elim (eq_by_cmp nat_cmp q n) as (λ b. cond b None (maps.get rows q) ≡ Some v → P (q, v)) [
+        | true ↦ λ gone. absurd (none-some _ gone)
+        | false ↦ λ later. kept_so q v later
+      ] (sym (maps.get-remove nat_cmp_total rows n q) ∙ is)
+
+  all_changed : (c : Change) → OfInserted P c → AllByRecursion P (maps.entries (changed rows c))
+  all_changed c new = each_found P (maps.entries (changed rows c)) (maps.entries_sorted (changed rows c)) (λ q v is. changed_so c new q v (maps.get-entries (changed rows c) q ∙ is))
+
+inserted_stands : (v : Values) (c : Change) → Fits (width_of v.metric v.dim) c → IsSpelledChange v.metric v.dim c → OfInserted (CanStand v) c
+inserted_stands v (Insert n w) fits spelled = record { number = fits.0; vector = fits.1; spelled = spelled }
+inserted_stands v (Delete n) fits spelled = tt
+
+pub held_changed : (v : Values) (old new : Held) (c : Change) → AreHeld v old → Fits (width_of v.metric v.dim) c → IsSpelledChange v.metric v.dim c → new ≡ record { width = old.width; vectors = changed old.vectors c } → AreHeld v new
+held_changed v old new c held fits spelled is =
+    let P : Rows → Type 0 = λ rows. AllByRecursion (CanStand v) (maps.entries rows) in
+    record {
+      width = ap (λ (h : Held). h.width) is ∙ held.width;
+      each = subst P (sym (ap (λ (h : Held). h.vectors) is)) (all_changed (CanStand v) old.vectors held.each c (inserted_stands v c fits spelled));
+    }
+
+-- where all changes apply, the first can, the others apply to what it makes, and there are never too many records
+absent : {X : Type 0} (o : Option X) → is_some o ≡ false → o ≡ None
+absent None e = refl
+absent (Some x) e = absurd (true≢false e)
+
+record Applies (place cap : ℕ) (rows : Rows) (c : Change) (cs : List Change) : Type 0 where
+  can : CanApply rows c
+  rest : after_from place cap rows (c ∷ cs) ≡ after_from (place + 1) cap (changed rows c) cs
+  few : maps.len rows ≤ cap → maps.len (changed rows c) ≤ cap
+
+insert_could : (a b : Bool) (e f : CheckFault) (m : Rows) (next : Rows → Result Rows CheckFault) → is_ok (and_then (cond a (Err e) (cond b (Err f) (Ok m))) next) ≡ true
+    → (a ≡ false) × (b ≡ false) × (and_then (cond a (Err e) (cond b (Err f) (Ok m))) next ≡ next m)
+insert_could true b e f m next h = absurd (false≢true h)
+insert_could false true e f m next h = absurd (false≢true h)
+insert_could false false e f m next h = (refl, refl, refl)
+
+delete_could : (a : Bool) (e : CheckFault) (m : Rows) (next : Rows → Result Rows CheckFault) → is_ok (and_then (cond a (Ok m) (Err e)) next) ≡ true → and_then (cond a (Ok m) (Err e)) next ≡ next m
+delete_could true e m next h = refl
+delete_could false e m next h = absurd (false≢true h)
+
+one_more_few : (b : Bool) (n cap new : ℕ) → new ≡ cond b n (n + 1) → nat_le cap n ≡ false → new ≤ cap
+one_more_few true n cap new is below = grind (arith, nat_tests)
+one_more_few false n cap new is below = grind (arith, nat_tests)
+
+one_less_few : (b : Bool) (n cap new : ℕ) → new ≡ cond b (n - 1) n → n ≤ cap → new ≤ cap
+one_less_few true n cap new is le = omega (arith, is, le)
+one_less_few false n cap new is le = omega (arith, is, le)
+
+applies : (place cap : ℕ) (rows : Rows) (c : Change) (cs : List Change) → IsOk (after_from place cap rows (c ∷ cs)) → Applies place cap rows c cs
+applies place cap rows (Insert n v) cs h =
+    let could = insert_could (maps.contains_key rows n) (nat_le cap (maps.len rows)) (Repeated place) (Full place) (maps.insert rows n v) (λ next. after_from (place + 1) cap next cs) h in
+    record {
+      can = absent (maps.get rows n) could.0;
+      rest = could.2;
+      few = λ le. one_more_few (maps.contains_key rows n) (maps.len rows) cap (maps.len (maps.insert rows n v)) (maps.len-insert nat_cmp_total rows n v) could.1;
+    }
+applies place cap rows (Delete n) cs h = record {
+  can = tt;
+  rest = delete_could (maps.contains_key rows n) (Unknown place) (maps.remove rows n) (λ next. after_from (place + 1) cap next cs) h;
+  few = one_less_few (maps.contains_key rows n) (maps.len rows) cap (maps.len (maps.remove rows n)) (maps.len-remove nat_cmp_total rows n);
+}
+
+-- The changes that are left apply to the records that stand now, and come to what all changes come to; the events so
+-- far and theirs are those of all changes.
+pub record Goes (v : Values) (start : Rows) (all : List Change) (records : Held) (marks : List (ℕ × Mark)) (events : List Event) (cs : List Change) : Type 0 where
+  pub holds : CanHold v records
+  pub marks_are : marks ≡ marks_on v records.vectors
+  pub fit : AllByRecursion (Fits (width_of v.metric v.dim)) cs
+  pub spelled : AllByRecursion (IsSpelledChange v.metric v.dim) cs
+  pub rest : (place : ℕ) × (after_from place v.cap records.vectors cs ≡ after v.cap start all)
+  pub events_are : events ++ events_of v records.vectors cs ≡ events_of v start all
+
+pub begins : (v : Values) (start : Rows) (all : List Change) (records : Held) (marks : List (ℕ × Mark)) (events : List Event) (cs more : List Change) (c : Change) → cs ≡ c ∷ more → Goes v start all records marks events cs → Goes v start all records marks events (c ∷ more)
+begins v start all records marks events cs more c e h = let P : List Change → Type 0 = λ xs. Goes v start all records marks events xs in subst P e h
+
+module _ (v : Values) (start : Rows) (all : List Change) (records : Held) (marks : List (ℕ × Mark)) (events : List Event) where
+  first_applies : (c : Change) (cs : List Change) → IsOk (after v.cap start all) → (goes : Goes v start all records marks events (c ∷ cs)) → Applies goes.rest.0 v.cap records.vectors c cs
+  first_applies c cs ok goes = applies goes.rest.0 v.cap records.vectors c cs (subst IsOk (sym goes.rest.1) ok)
+
+  pub first_can : (c : Change) (cs : List Change) → IsOk (after v.cap start all) → Goes v start all records marks events (c ∷ cs) → CanApply records.vectors c
+  first_can c cs ok goes = (first_applies c cs ok goes).can
+
+  pub goes_further : (c : Change) (cs : List Change) (next : Held) (new : List (ℕ × Mark)) (more : List Event) → IsOk (after v.cap start all) → Goes v start all records marks events (c ∷ cs)
+      → next.vectors ≡ changed records.vectors c → AreHeld v next → new ≡ marks_on v next.vectors → more ≡ events ++ cases_of marks new → Goes v start all next new more cs
+  goes_further c cs next new more ok goes is held new_is more_is =
+      let step = first_applies c cs ok goes in
+      let few : maps.len next.vectors ≤ v.cap = subst (λ (rows : Rows). maps.len rows ≤ v.cap) (sym is) (step.few goes.holds.few) in
+      let own : cases_of marks new ≡ cases_of (marks_on v records.vectors) (marks_on v (changed records.vectors c)) =
+      ap (λ (m : List (ℕ × Mark)). cases_of m new) goes.marks_are ∙ ap (cases_of (marks_on v records.vectors)) (new_is ∙ ap (marks_on v) is) in
+      let rest : events_of v next.vectors cs ≡ events_of v (changed records.vectors c) cs = ap (λ (rows : Rows). events_of v rows cs) is in
+      record {
+        holds = record { held = held; few = few };
+        marks_are = new_is;
+        fit = goes.fit.1;
+        spelled = goes.spelled.1;
+        rest = (goes.rest.0 + 1, ap (λ (rows : Rows). after_from (goes.rest.0 + 1) v.cap rows cs) is ∙ (sym step.rest ∙ goes.rest.1));
+        events_are =
+            ap (λ (es : List Event). es ++ events_of v next.vectors cs) (more_is ∙ ap (λ (es : List Event). events ++ es) own)
+            ∙ ap (λ (es : List Event). (events ++ cases_of (marks_on v records.vectors) (marks_on v (changed records.vectors c))) ++ es) rest
+            ∙ append_assoc events (cases_of (marks_on v records.vectors) (marks_on v (changed records.vectors c))) (events_of v (changed records.vectors c) cs)
+            ∙ goes.events_are;
+      }
+
+  pub goes_last : Goes v start all records marks events [] → (records.vectors ≡ rows_after v start all) × (events ≡ events_of v start all)
+  goes_last goes = (ap (or_else start) goes.rest.1, sym (append-nil events) ∙ goes.events_are)

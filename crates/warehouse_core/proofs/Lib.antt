@@ -1,0 +1,6 @@
+pub mod Moments
+pub mod Found
+pub mod Judged
+pub mod Alike
+pub mod Applied
+pub mod Accepted

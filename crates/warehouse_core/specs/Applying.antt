@@ -1,0 +1,58 @@
+-- What one batch does to a warehouse and to its site.
+use Rattle.std.specs.Prelude.{◌≡◌, ◌⊎◌, ℕ, ◌+◌, ◌++◌, Bool, true, false, List, Result, Ok, Err}
+use Rattle.vec_record.specs.declared.change.Change.{Change}
+use Rattle.site_disk.specs.State.{SiteState, Safe}
+use Rattle.page_layout.specs.Heads.{HeadValue}
+use Rattle.store_image.specs.Images.{Places}
+use Rattle.store_image.specs.Placing.{AreAt, saved_pages}
+use Rattle.store_image.specs.Stores.{IsStore}
+use Rattle.warehouse_core.specs.declared.refusal.Refusal.{Refusal}
+use Rattle.warehouse_core.specs.declared.refusal.Refusal.TheVariants.{Malformed, WrongLength, Repeated, Unknown, Full, TooManyRecords, BatchesUsedUp, SiteFault, Memory}
+use Rattle.warehouse_core.specs.Batches.{outcome, rows_after, events_of}
+use Rattle.warehouse_core.specs.Receipts.{receipt_text}
+use Rattle.warehouse_core.specs.States.{State, LoadsAs}
+
+-- whether a refusal has a number: only faults of the site and want of memory have none
+abbrev pub is_numbered : Refusal → Bool
+is_numbered (Malformed place) = true
+is_numbered (WrongLength place) = true
+is_numbered (Repeated place) = true
+is_numbered (Unknown place) = true
+is_numbered (Full place) = true
+is_numbered TooManyRecords = true
+is_numbered BatchesUsedUp = true
+is_numbered SiteFault = false
+is_numbered Memory = false
+
+-- what is due to a body over a warehouse
+abbrev pub due : State → List ℕ → Result (List Change) Refusal
+due w body = outcome w.values w.batches w.rows body
+
+-- An accepted batch: its records, one batch more, and the receipt behind the text; the pages are those of the rules of
+-- placing, and load as the new records.
+pub record Accepts (body : List ℕ) (w next : State) (text more : List ℕ) : Type 0 where
+  pub changes : List Change
+  pub accepted : due w body ≡ Ok changes
+  pub values : next.values ≡ w.values
+  pub rows : next.rows ≡ rows_after w.values w.rows changes
+  pub batches : next.batches ≡ w.batches + 1
+  pub stored : next.stored ≡ true
+  pub failed : next.failed ≡ false
+  pub receipt : more ≡ text ++ receipt_text (w.batches + 1) changes (events_of w.values w.rows changes)
+  pub pages : (h : HeadValue) (places : Places) → AreAt h places w.pages → next.pages ≡ saved_pages h places next.rows
+  pub loads : LoadsAs next.pages next.values next.rows next.batches
+
+-- the store before the batch, or, where it is accepted, the one after it
+abbrev pub IsBefore : State → List ℕ → Type 0
+IsBefore w c = IsStore w.values w.rows w.batches c
+
+pub record IsAfter (body : List ℕ) (w : State) (c : List ℕ) : Type 0 where
+  pub changes : List Change
+  pub accepted : due w body ≡ Ok changes
+  pub store : IsStore w.values (rows_after w.values w.rows changes) (w.batches + 1) c
+
+-- Nothing is said, and each image, at each moment, holds the batch wholly or not at all; after want of memory not at all.
+pub record Steps (body : List ℕ) (result : Result Unit Refusal) (w : State) (a b : SiteState) : Type 0 where
+  pub safe : Safe a b (λ s c. (s ≡ a.said) × (IsBefore w c ⊎ IsAfter body w c))
+  pub said : b.said ≡ a.said
+  pub unsaved : result ≡ Err Memory → Safe a b (λ s c. (s ≡ a.said) × IsBefore w c)

@@ -1,0 +1,58 @@
+-- For the inside of a warehouse alone: what its fields are seen as, and what holds of them until it has failed.
+use Rattle.std.specs.Prelude.{◌≡◌, ◌⊎◌, ◌≤◌, ℕ, Bool, List, Result, Ok, Err, OnOk}
+use Rattle.std.specs.List.{AllByRecursion}
+use Rattle.std.specs.FinMap as map
+use Rattle.vec_record.specs.Limits.{width_of}
+use Rattle.vec_record.specs.declared.kind.MetricKind.{MetricKind}
+use Rattle.plain_dbscan.specs.declared.marks.Mark.{Mark}
+use Rattle.page_layout.specs.Heads.{Values, plain}
+use Rattle.store_image.specs.declared.loaded.Loaded.{Loaded}
+use Rattle.store_image.specs.Images.{image_of}
+use Rattle.store_image.specs.Loading.{load_of}
+use Rattle.store_image.specs.Placing.{AreAt, CanStand}
+use Rattle.vec_record.specs.Held as held
+use Rattle.site_disk.specs.State.{SiteState, Safe}
+use Rattle.page_gate.specs.Gate.{opening, Opens}
+use Rattle.page_gate.specs.Promises.{Holds}
+use Rattle.store_image.specs.Stores.{IsStore}
+use Rattle.warehouse_core.specs.declared.refusal.Refusal.{Refusal}
+use Rattle.warehouse_core.specs.declared.refusal.Refusal.TheVariants.{Memory}
+use Rattle.warehouse_core.specs.Batches.{marks_on}
+use Rattle.warehouse_core.specs.States.{State}
+
+-- a warehouse with this store in memory and these pages
+abbrev pub state_of : Loaded → List (List ℕ) → Bool → Bool → State
+state_of s pages stored failed = record {
+  values = (plain s.head).values;
+  pages = pages;
+  rows = s.records.vectors;
+  batches = s.head.batches;
+  stored = stored;
+  failed = failed;
+}
+
+-- records whose numbers and vectors a store with these parameters can hold
+pub record AreHeld (v : Values) (records : held.Held) : Type 0 where
+  pub width : records.width ≡ width_of v.metric v.dim
+  pub each : AllByRecursion (CanStand v) (map.entries records.vectors)
+
+-- and no more of them than it may have
+pub record CanHold (v : Values) (records : held.Held) : Type 0 where
+  pub held : AreHeld v records
+  pub few : map.len records.vectors ≤ v.cap
+
+-- the pages are those of the store, the marks those of the records, and the metric is that of the parameters
+pub record Stands (kind : MetricKind) (s : Loaded) (pages : List (List ℕ)) (marks : List (ℕ × Mark)) : Type 0 where
+  pub at : AreAt (plain s.head) s.places pages
+  pub loads : load_of pages ≡ Ok (image_of s)
+  pub kind_is : (plain s.head).values.metric ≡ kind
+  pub holds : CanHold (plain s.head).values s.records
+  pub marks_are : marks ≡ marks_on (plain s.head).values s.records.vectors
+
+-- Nothing is said, and each image, at each moment, has the old pages or is a store with what is saved; want of memory
+-- comes before the first write, and after Ok the only image has the new pages.
+pub record Saves (old : List (List ℕ)) (values : Values) (rows : held.Rows) (batches : ℕ) (new : List (List ℕ)) (result : Result Unit Refusal) (a b : SiteState) : Type 0 where
+  pub safe : Safe a b (λ s c. (s ≡ a.said) × ((opening c ≡ Opens old) ⊎ IsStore values rows batches c))
+  pub said : b.said ≡ a.said
+  pub holds : OnOk result (Holds new b)
+  pub unsaved : result ≡ Err Memory → Safe a b (λ s c. (s ≡ a.said) × (opening c ≡ Opens old))

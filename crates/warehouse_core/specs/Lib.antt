@@ -1,0 +1,7 @@
+pub mod Batches
+pub mod Receipts
+pub mod States
+pub mod Applying
+pub mod Queries
+pub mod Rising
+pub mod Inside

@@ -1,0 +1,46 @@
+-- What a warehouse is.
+use Rattle.std.specs.Prelude.{◌≡◌, ℕ, Bool, List, Ok, refl}
+use Rattle.std.specs.Coded.{Coded, code_by, coded×, coded_ℕ, coded_bool, coded_list}
+use Rattle.std.specs.FinMap as map
+use Rattle.vec_record.specs.Held.{Rows}
+use Rattle.vec_record.specs.declared.kind.MetricKind.{MetricKind}
+use Rattle.vec_record.specs.declared.kind.MetricKind.TheVariants.{L1, Max, Hamming}
+use Rattle.page_layout.specs.Heads.{Values, metric_number, metric_of}
+use Rattle.store_image.specs.Images.{Image}
+use Rattle.store_image.specs.Loading.{load_of}
+
+-- its parameters, the pages of its store, its records, how many batches it accepted, whether it has a store, and whether it has failed
+pub record State : Type 0 where
+  pub values : Values
+  pub pages : List (List ℕ)
+  pub rows : Rows
+  pub batches : ℕ
+  pub stored : Bool
+  pub failed : Bool
+
+-- stored as tuples of these
+abbrev pub metric_code : Coded MetricKind
+metric_code = code_by ℕ coded_ℕ metric_number metric_of metric_kept
+  where
+    metric_kept : (m : MetricKind) → metric_of (metric_number m) ≡ m
+    metric_kept L1 = refl
+    metric_kept Max = refl
+    metric_kept Hamming = refl
+
+abbrev pub values_code : Coded Values
+values_code =
+    code_by (MetricKind × (ℕ × (ℕ × (ℕ × ℕ)))) (coded× metric_code (coded× coded_ℕ (coded× coded_ℕ (coded× coded_ℕ coded_ℕ))))
+    (λ v. (v.metric, (v.dim, (v.eps, (v.minpts, v.cap))))) (λ p. record { metric = p.0; dim = p.1.0; eps = p.1.1.0; minpts = p.1.1.1.0; cap = p.1.1.1.1 }) (λ _. refl)
+
+abbrev pub state_code : Coded State
+state_code =
+    code_by (Values × (List (List ℕ) × (Rows × (ℕ × (Bool × Bool))))) (coded× values_code (coded× (coded_list (coded_list coded_ℕ)) (coded× (map.code coded_ℕ (coded_list coded_ℕ)) (coded× coded_ℕ (coded× coded_bool coded_bool)))))
+    (λ s. (s.values, (s.pages, (s.rows, (s.batches, (s.stored, s.failed)))))) (λ p. record { values = p.0; pages = p.1.0; rows = p.1.1.0; batches = p.1.1.1.0; stored = p.1.1.1.1.0; failed = p.1.1.1.1.1 }) (λ _. refl)
+
+-- the pages load as these parameters, records and batches
+pub record LoadsAs (pages : List (List ℕ)) (values : Values) (rows : Rows) (batches : ℕ) : Type 0 where
+  pub image : Image
+  pub loads : load_of pages ≡ Ok image
+  pub values_are : image.head.values ≡ values
+  pub rows_are : image.records.vectors ≡ rows
+  pub batches_are : image.head.batches ≡ batches

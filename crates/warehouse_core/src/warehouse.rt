@@ -1,0 +1,228 @@
+ghost use Rattle.std.specs.Prelude.{◌≡◌, ◌≤◌, ◌<◌, ◌⊎◌, ℕ, List, Bool, true, false, [], ◌∷◌, ◌++◌, Ok, Err, None, length, IsTrue, IsOk, IfOk, OnOk, OnErr, IfErr, MatchResult};
+ghost use Rattle.site_disk.specs.Causes.{Rose};
+ghost use Rattle.page_gate.specs.Promises.{Holds};
+ghost use Rattle.std.specs.List.{AllByRecursion};
+ghost use Rattle.batch_text.specs.After.{after};
+ghost use Rattle.batch_text.specs.Batch.{Fits, IsSpelledChange};
+ghost use Rattle.store_image.specs.Loading.{load_of, params_in_pages, Fails};
+ghost use Rattle.vec_record.specs.Limits.{width_of};
+ghost use Rattle.page_layout.specs.Heads.{Values, values_of};
+ghost use Rattle.warehouse_core.specs.Batches.{marks_on};
+ghost use Rattle.warehouse_core.specs.States.{State, LoadsAs};
+ghost use Rattle.warehouse_core.specs.Queries.{mark_on, members_of};
+ghost use Rattle.warehouse_core.specs.Applying.{Accepts, Steps as BatchSteps, due, is_numbered};
+
+use crate::changing::apply_changes;
+use crate::clustering::cluster;
+use crate::judging::judge;
+use crate::queries::{copied, find_mark, members_of};
+use crate::receipt::{count_deletions, count_insertions, receipt};
+use crate::refusal::Refusal;
+use crate::saving::save;
+use page_gate::Pages;
+use plain_dbscan::{Mark, Marks};
+use site_disk::Site;
+use std::alloc::{AllocError, Global};
+use std::marker::{Model, PhantomData};
+use std::sync::ledger::Ledger;
+use store_image::laws::loads_are_stores;
+use store_image::{Loaded, StoreFault};
+use vec_record::{Bytes, Changes, Metric, Number, Params, Records, Steps};
+
+/// Records, their marks and their store.
+#[derive(Drop)]
+pub struct Warehouse<M: Metric> {
+    alloc: Global,
+    pages: Pages,
+    state: Loaded,
+    marks: Marks,
+    stored: bool,
+    failed: bool,
+    metric: PhantomData<M>,
+}
+
+impl<M: Metric> Model for Warehouse<M> {
+    ghost use Rattle.std.specs.Prelude.{◌≡◌, false};
+    ghost use Rattle.warehouse_core.specs.States.{State, state_code};
+
+    ghost Value = { State };
+
+    ghost coded = { state_code };
+
+    ghost use Rattle.warehouse_core.specs.Inside.{Stands, state_of};
+
+    ghost view = { λ w. state_of w.state w.pages.list w.stored w.failed };
+
+    ghost invariant = { λ w. w.failed ≡ false → Stands M.KIND w.state w.pages.list w.marks };
+}
+
+impl<M: Metric> Warehouse<M> {
+    /// A stored warehouse, as its pages have it.
+    pub fn load<L: Ledger>(
+        alloc: Global,
+        pages: Pages,
+        steps: &mut Steps<L>,
+    ) -> Result<Warehouse<M>, StoreFault>
+        requires kind { (v : Values) → params_in_pages pages.list ≡ Ok v → v.metric ≡ M.KIND }
+        ensures loaded { MatchResult result (λ w. LoadsAs pages.list w.values w.rows w.batches × (w.pages ≡ pages.list) × (w.stored ≡ true) × (w.failed ≡ false)) (λ e. Fails e (load_of pages.list)) }
+        ensures counts { steps.old ≤ steps.new }
+    {
+        let state = store_image::load(alloc, &pages)?;
+        let marks = cluster::<M, L>(alloc, &state.head.params, &state.records, steps)?;
+        Ok(Warehouse {
+            alloc,
+            pages,
+            state,
+            marks,
+            stored: true,
+            failed: false,
+            metric: PhantomData,
+        })
+    }
+
+    /// Takes a batch of at most 67,108,864 bytes as one step.
+    pub fn apply<T: Site, L: Ledger>(
+        &mut self,
+        site: &mut T,
+        body: &[u8],
+        out: &mut Bytes,
+        steps: &mut Steps<L>,
+    ) -> Result<(), Refusal>
+        requires stored { self.old.stored ≡ true }
+        requires whole { self.old.failed ≡ false }
+        requires body { length body.now ≤ 67_108_864 }
+        requires ready { IsTrue T.tells → Holds self.old.pages (T.state site.old) }
+
+        // Ok is for a batch that is accepted, and only that.
+        ensures ok { OnOk result (Accepts body.now self.old self.new out.old out.new) }
+        ensures ready { IsTrue T.tells → OnOk result (Holds self.new.pages (T.state site.new)) }
+
+        // A refusal with a number is the one that is due, and leaves all as it was.
+        ensures refused { IfErr result (λ e. is_numbered e ≡ true → due self.old body.now ≡ Err e) }
+        ensures warehouse { IfErr result (λ e. is_numbered e ≡ true → self.new ≡ self.old) }
+        ensures site { IfErr result (λ e. is_numbered e ≡ true → site.new ≡ site.old) }
+        ensures text { OnErr result (out.new ≡ out.old) }
+
+        // After the other answers the warehouse has failed.
+        ensures failed { IfErr result (λ e. is_numbered e ≡ false → self.new.failed ≡ true) }
+        ensures fault { result ≡ Err Refusal.SiteFault → Rose (T.faults site.old) (T.faults site.new) }
+        ensures later { T.faults site.old ≤ T.faults site.new }
+
+        // What a crash leaves at each moment.
+        ensures moments { IsTrue T.tells → BatchSteps body.now result self.old (T.state site.old) (T.state site.new) }
+        ensures counts { steps.old ≤ steps.new }
+    {
+        loads_are_stores();
+        let params = self.state.head.params;
+        let batches = self.state.head.batches;
+        match judge(self.alloc, &params, batches, &self.state.records, body) {
+            Ok(changes) => self.accept(site, changes, out, steps),
+            Err(refusal) => {
+                if refusal == Refusal::Memory {
+                    self.failed = true;
+                }
+                Err(refusal)
+            }
+        }
+    }
+
+    /// Takes the changes of an accepted batch in, and saves them.
+    fn accept<T: Site, L: Ledger>(
+        &mut self,
+        site: &mut T,
+        changes: Changes,
+        out: &mut Bytes,
+        steps: &mut Steps<L>,
+    ) -> Result<(), Refusal>
+        requires stored { self.old.stored ≡ true }
+        requires whole { self.old.failed ≡ false }
+        requires ready { IsTrue T.tells → Holds self.old.pages (T.state site.old) }
+        requires batches { self.old.batches < 4294967295 }
+        requires fits { AllByRecursion (Fits (width_of self.old.values.metric self.old.values.dim)) changes }
+        requires spelled { AllByRecursion (IsSpelledChange self.old.values.metric self.old.values.dim) changes }
+        requires accepted { IsOk (after self.old.values.cap self.old.rows changes) }
+        ensures ok { OnOk result ((body : List ℕ) → due self.old body ≡ Ok changes → Accepts body self.old self.new out.old out.new) }
+        ensures ready { IsTrue T.tells → OnOk result (Holds self.new.pages (T.state site.new)) }
+        ensures text { OnErr result (out.new ≡ out.old) }
+        ensures err { IfErr result (λ e. is_numbered e ≡ false) }
+        ensures failed { OnErr result (self.new.failed ≡ true) }
+        ensures fault { result ≡ Err Refusal.SiteFault → Rose (T.faults site.old) (T.faults site.new) }
+        ensures later { T.faults site.old ≤ T.faults site.new }
+        ensures moments { IsTrue T.tells → (body : List ℕ) → due self.old body ≡ Ok changes → BatchSteps body result self.old (T.state site.old) (T.state site.new) }
+        ensures counts { steps.old ≤ steps.new }
+    {
+        loads_are_stores();
+        // What is in memory runs ahead of the store until the batch is saved.
+        self.failed = true;
+        let alloc = self.alloc;
+        let params = self.state.head.params;
+        let insertions = count_insertions(changes.as_slice());
+        let deletions = count_deletions(changes.as_slice());
+        let records = &mut self.state.records;
+        let marks = &mut self.marks;
+        let events = apply_changes::<M, L>(alloc, &params, records, marks, changes, steps)?;
+        let batch = self.state.head.batches + 1;
+        let line = receipt(alloc, batch, insertions, deletions, events.as_slice())?;
+        let pages = &mut self.pages;
+        save(alloc, site, pages, &mut self.state, line.as_slice(), out)?;
+        self.failed = false;
+        Ok(())
+    }
+
+    /// Whether it has failed: exactly after `SiteFault` or `Memory` of `apply`.
+    pub fn failed(&self) -> bool
+        ensures { result ≡ self.now.failed }
+    {
+        self.failed
+    }
+
+    /// Whether it has a store, as each loaded one does.
+    pub fn is_stored(&self) -> bool
+        ensures { result ≡ self.now.stored }
+    {
+        self.stored
+    }
+
+    pub fn params(&self) -> Params
+        ensures { values_of result ≡ self.now.values }
+    {
+        self.state.head.params
+    }
+
+    pub fn records(&self) -> &Records
+        ensures vectors { result.now.vectors ≡ self.now.rows }
+        ensures width { self.now.failed ≡ false → result.now.width ≡ width_of self.now.values.metric self.now.values.dim }
+    {
+        &self.state.records
+    }
+
+    /// How many batches its store accepted.
+    pub fn batches(&self) -> u32
+        ensures { result ≡ self.now.batches }
+    {
+        self.state.head.batches
+    }
+    /// The mark of a number, by one look-up in memory; `None` exactly where the number is absent.
+    pub fn mark_of(&self, number: Number) -> Option<Mark>
+        requires { self.now.failed ≡ false }
+        ensures { result ≡ mark_on self.now.values self.now.rows number }
+    {
+        find_mark(self.marks.as_slice(), number)
+    }
+
+    /// Each number with its mark, rising.
+    pub fn marks(&self) -> Result<Marks, AllocError>
+        requires { self.now.failed ≡ false }
+        ensures { IfOk result (λ marks. marks ≡ marks_on self.now.values self.now.rows) }
+    {
+        copied(self.alloc, self.marks.as_slice())
+    }
+
+    /// The cores and borders with a label, by rising number; `None` exactly where no core has it.
+    pub fn members(&self, label: Number) -> Result<Option<Marks>, AllocError>
+        requires { self.now.failed ≡ false }
+        ensures { IfOk result (λ members. members ≡ members_of label (marks_on self.now.values self.now.rows)) }
+    {
+        members_of(self.alloc, self.marks.as_slice(), label)
+    }
+}
