@@ -1,18 +1,16 @@
 -- The laws of contents as stores.
-use Rattle.std.proofs.Common.{◌≡◌, ◌⊎◌, inl, inr, ⊎_elim, ℕ, ◌+◌, ◌≤◌, ◌/◌, Bool, true, false, ◌&&◌, leb, List, [], ◌∷◌, length, map, drop, get_or, Option, Some, None, Result, Ok, Err, refl, sym, ◌∙◌, ap, subst, arith}
+use Rattle.std.proofs.Common.{◌≡◌, inl, inr, ℕ, ◌/◌, Bool, true, false, ◌&&◌, leb, List, [], ◌∷◌, length, drop, get_or, Option, Some, None, Ok, refl, sym, ◌∙◌, ap, subst, arith}
 use Rattle.std.specs.List.{flat_map}
-use Rattle.std.specs.FinMap as maps
 use Rattle.vec_record.specs.Limits.{width_of}
-use Rattle.vec_record.specs.Held as held
-use Rattle.page_gate.specs.declared.fault.OpenFault.TheVariants.{Blank, Foreign, Damaged, SiteFault, Memory}
-use Rattle.page_gate.specs.Gate.{number_4, is_blank, blank_by, is_signed, first_set, is_open, fits, redo_start, redo_count, gate_of, begun_gate, signed_gate, behind_zeros, redo_gate, items, rises, page_of, count_of, counts, list_of, listed_by, listed, taken_by, through, opening, Opening, Refuses, Opens}
-use Rattle.page_layout.specs.Heads.{Values, HeadValue, IsHead, head_of, head_in, head_page, values_in}
+use Rattle.page_gate.specs.declared.fault.OpenFault.TheVariants.{Blank}
+use Rattle.page_gate.specs.Gate.{number_4, is_blank, blank_by, is_signed, first_set, is_open, fits, redo_start, redo_count, gate_of, begun_gate, signed_gate, behind_zeros, redo_gate, items, rises, page_of, count_of, counts, list_of, listed_by, listed, taken_by, through, opening, Refuses, Opens}
+use Rattle.page_layout.specs.Heads.{Values, HeadValue, head_of, head_in, head_page, values_in}
 use Rattle.page_layout.specs.Bodies.{Rows, rows_in}
 use Rattle.page_layout.specs.Laws.{HeadsHaveOneSpelling, WrittenArePages}
-use Rattle.store_image.specs.Images.{Image, number_of, vectors_of}
+use Rattle.store_image.specs.Images.{Image, vectors_of}
 use Rattle.store_image.specs.Loading.{in_page, head_in_pages, slots_in, load_of, image_with}
-use Rattle.store_image.specs.Stores.{values_in_pages, batches_in_pages, vectors_in_pages, refusal_of, verdict, records_by, batches_by, params_by, refusal_on, records_on, batches_on, params_on, IsSound, IsStore, AreAlike, SameOpeningsAreAlike, LoadsAreStores, IsNew, new_image, NewStoresLoad, HeadsCountPages}
-use Rattle.store_image.proofs.Reading.{Loads, load_parts, load_passes, read_head_is, head_value, slots_rows, slots_none, head_in_is}
+use Rattle.store_image.specs.Stores.{values_in_pages, refusal_of, verdict, records_by, batches_by, params_by, refusal_on, records_on, batches_on, params_on, IsSound, IsStore, SameOpeningsAreAlike, LoadsAreStores, NewStoresLoad, HeadsCountPages}
+use Rattle.store_image.proofs.Reading.{load_parts, load_passes, read_head_is, head_value, slots_rows, slots_none, head_in_is}
 
 -- what each says is a function of the opening
 refusal_is : (c : List ℕ) → refusal_on c ≡ verdict (opening c)

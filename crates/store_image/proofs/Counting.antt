@@ -1,5 +1,5 @@
 -- The counts behind the grammar of the pages, and the whole load.
-use Rattle.std.proofs.Common.{◌≡◌, ℕ, ◌+◌, ◌-◌, ◌*◌, ◌/◌, ◌%◌, ◌<◌, ◌≤◌, ◌^◌, Bool, not, ◌&&◌, List, [], ◌∷◌, length, map, drop, get_or, Option, Some, None, Result, Ok, Err, refl, sym, ◌∙◌, ap, subst, arith, length-drop, IsTrue}
+use Rattle.std.proofs.Common.{◌≡◌, ℕ, ◌+◌, ◌-◌, ◌*◌, ◌/◌, ◌%◌, ◌<◌, ◌≤◌, ◌^◌, Bool, ◌&&◌, List, [], ◌∷◌, length, map, drop, Option, Some, None, Ok, Err, refl, sym, ◌∙◌, ap, subst, arith, length-drop, IsTrue}
 use Rattle.std.specs.Prelude.{◌==◌, nat_le, count_by}
 use Rattle.std.specs.List.{AllByRecursion}
 use Rattle.std.specs.FinMap as maps
@@ -8,12 +8,11 @@ use Rattle.std.proofs.lemmas.Nat.{div-add-mod'}
 use Rattle.std.proofs.Math.Nat.{mul-le-mul_left, div-le_self}
 use Rattle.vec_record.specs.Held as held
 use Rattle.vec_record.specs.Limits.{are_within, is_between, greatest_dim, width_of}
-use Rattle.page_layout.specs.declared.slot.Slot.{Slot}
 use Rattle.page_layout.specs.Heads.{Values, HeadValue}
 use Rattle.page_layout.specs.Bodies.{Rows, IsRow, slots_in_page}
 use Rattle.store_image.specs.declared.fault.StoreFault.{StoreFault}
-use Rattle.store_image.specs.declared.fault.StoreFault.TheVariants.{Foreign, Damaged, Memory}
-use Rattle.store_image.specs.Images.{Image, number_of, vectors_of}
+use Rattle.store_image.specs.declared.fault.StoreFault.TheVariants.{Damaged}
+use Rattle.store_image.specs.Images.{number_of}
 use Rattle.store_image.specs.Loading.{and_then, unless, head_in_pages, slots_in, page_limit, first_repeated, unless_repeated, counted, image_with, load_of, Fails}
 use Rattle.store_image.specs.Steps.{Took}
 use Rattle.store_image.proofs.Numbers.{Apart, once_apart}

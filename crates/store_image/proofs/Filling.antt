@@ -1,5 +1,5 @@
 -- Pages that are filled slot by slot, and plans that are made page by page.
-use Rattle.std.proofs.Common.{◌≡◌, ℕ, zero, suc, ◌+◌, ◌-◌, ◌*◌, ◌/◌, ◌<◌, ◌≤◌, List, [], ◌∷◌, ◌++◌, length, map, take, drop, set, get_or, replicate, Option, Some, None, refl, sym, ◌∙◌, ap, subst, arith, length-append, append_assoc}
+use Rattle.std.proofs.Common.{◌≡◌, ℕ, zero, suc, ◌+◌, ◌-◌, ◌*◌, ◌/◌, ◌<◌, ◌≤◌, List, [], ◌∷◌, ◌++◌, length, map, take, drop, set, get_or, replicate, Option, None, refl, sym, ◌∙◌, ap, arith, length-append, append_assoc}
 use Rattle.std.specs.List.{AllByRecursion, range_with_len}
 use Rattle.std.proofs.lemmas.List.{length-map, length-replicate, length-take-le, get_or_at, set_at, map_more, drop_all, append-nil}
 use Rattle.std.proofs.lemmas.List.FromFn.{length-map-range_with_len, get_or-map-range_with_len}
@@ -7,7 +7,7 @@ use Rattle.vec_record.specs.Held as held
 use Rattle.vec_record.specs.Limits.{width_of}
 use Rattle.page_gate.specs.Gate.{part}
 use Rattle.page_layout.specs.declared.slot.Slot.{Slot}
-use Rattle.page_layout.specs.Heads.{Values, HeadValue, head_page}
+use Rattle.page_layout.specs.Heads.{Values, HeadValue}
 use Rattle.page_layout.specs.Bodies.{Rows, AreRows, IsRow, slots_in_page, body_page}
 use Rattle.store_image.specs.Placing.{slot_for, rows_at, pages_with, writes_from}
 use Rattle.store_image.specs.Steps.{one_write}

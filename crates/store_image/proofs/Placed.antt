@@ -9,16 +9,16 @@ use Rattle.std.specs.declared.cmp.Ordering.TheVariants.{Less, Equal, Greater}
 use Rattle.std.specs.FinMap as maps
 use Rattle.std.specs.FinMap.{is_sorted}
 use Rattle.std.specs.FinMap.Entries.{below_all}
-use Rattle.std.proofs.lemmas.Bool.{cases_Bool, cases_eq, cases_lt, cases_order, eqb-true, eq-eqb, ne_eqb, lt-ltb, le-ltb, false≢true, true≢false, or_parts, or_left, or_right, or_cases, and_from, and_parts}
+use Rattle.std.proofs.lemmas.Bool.{cases_Bool, cases_eq, cases_order, eqb-true, eq-eqb, ne_eqb, lt-ltb, le-ltb, false≢true, or_parts, or_left, or_right, and_parts}
 use Rattle.std.proofs.lemmas.List.{length-map, length-replicate}
 use Rattle.std.proofs.lemmas.List.Folds.{list_any-append}
 use Rattle.std.proofs.lemmas.Map.Views.{any-filter_same}
-use Rattle.std.proofs.lemmas.Nat.{div-mul-add, mod-mul-add, mod_below, le-div, div-add-mod'}
+use Rattle.std.proofs.lemmas.Nat.{mod-mul-add, mod_below, div-add-mod'}
 use Rattle.vec_record.specs.Held as held
 use Rattle.page_layout.specs.Bodies.{slots_in_page}
 use Rattle.store_image.specs.Images.{Places}
 use Rattle.store_image.specs.Placing.{kept, unplaced, filled, padded, placed}
-use Rattle.store_image.proofs.Numbers.{has, has_push, Apart, Without}
+use Rattle.store_image.proofs.Numbers.{has, Apart, Without}
 
 or_false : (b : Bool) → (b || false) ≡ b
 or_false true = refl

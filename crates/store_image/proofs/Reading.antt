@@ -1,8 +1,8 @@
 -- What is read of pages, part by part.
-use Rattle.std.proofs.Common.{◌≡◌, ◌⊎◌, inl, inr, ℕ, zero, suc, ◌+◌, ◌*◌, ◌/◌, ◌<◌, ◌≤◌, Bool, true, false, cond, not, List, [], ◌∷◌, ◌++◌, length, map, take, drop, get_or, Option, Some, None, Result, Ok, Err, refl, sym, ◌∙◌, ap, subst, arith, length-append, IsTrue}
+use Rattle.std.proofs.Common.{◌≡◌, ℕ, zero, suc, ◌+◌, ◌*◌, ◌≤◌, Bool, true, false, cond, not, List, [], ◌∷◌, ◌++◌, length, map, take, drop, get_or, Option, Some, None, Result, Ok, Err, refl, sym, ◌∙◌, ap, subst, arith, length-append, IsTrue}
 use Rattle.std.specs.Prelude.{◌==◌, nat_le, count_by}
 use Rattle.std.specs.List.{flat_map, range_with_len, AllByRecursion}
-use Rattle.std.proofs.lemmas.Bool.{cases_Bool, eqb-true, eq-eqb, le-leb, false≢true}
+use Rattle.std.proofs.lemmas.Bool.{eq-eqb, le-leb}
 use Rattle.std.proofs.lemmas.List.{length-map, take-append-drop, drop-drop, map-append, nil_from_length, length-take-le, length-drop}
 use Rattle.std.proofs.lemmas.List.FromFn.{length-map-range_with_len}
 use Rattle.vec_record.specs.Held as held
@@ -11,13 +11,13 @@ use Rattle.page_gate.specs.Gate.{part, number_4}
 use Rattle.page_layout.specs.declared.fault.LayoutFault.{LayoutFault}
 use Rattle.page_layout.specs.declared.fault.LayoutFault.TheVariants as layout_fault
 use Rattle.page_layout.specs.Fields.{first_bad, unless_bad}
-use Rattle.page_layout.specs.Heads.{Values, HeadValue, IsHead, head_of, head_in, head_page, head_fields, values_in}
+use Rattle.page_layout.specs.Heads.{Values, HeadValue, head_of, head_in, head_fields}
 use Rattle.page_layout.specs.Bodies.{Rows, AreRows, IsRow, rows_in, slots_in_page, body_of, body_page, body_fields}
-use Rattle.page_layout.specs.Laws.{BodiesHaveOneSpelling, HeadsHaveOneSpelling, WrittenArePages}
+use Rattle.page_layout.specs.Laws.{BodiesHaveOneSpelling, WrittenArePages}
 use Rattle.store_image.specs.declared.fault.StoreFault.{StoreFault}
-use Rattle.store_image.specs.declared.fault.StoreFault.TheVariants.{Foreign, Damaged, Memory}
+use Rattle.store_image.specs.declared.fault.StoreFault.TheVariants.{Damaged}
 use Rattle.store_image.specs.Images.{Image, Places, number_of}
-use Rattle.store_image.specs.Loading.{and_then, unless, in_page, head_in_pages, params_in_pages, values_of_head, slots_in, page_limit, first_repeated, unless_repeated, counted, image_with, load_of}
+use Rattle.store_image.specs.Loading.{and_then, unless, in_page, head_in_pages, slots_in, page_limit, first_repeated, unless_repeated, counted, image_with, load_of}
 use Rattle.store_image.specs.Placing.{slot_for, rows_at}
 
 -- a step that came to a value

@@ -1,9 +1,9 @@
 -- The pages after a save load as the state that was saved.
-use Rattle.std.proofs.Common.{◌≡◌, ◌⊎◌, inl, inr, ⊎_elim, ℕ, zero, suc, ◌+◌, ◌-◌, ◌*◌, ◌/◌, ◌<◌, ◌≤◌, ◌^◌, Bool, true, false, cond, ◌&&◌, List, [], ◌∷◌, ◌++◌, length, map, drop, take, get_or, Option, Some, None, Result, Ok, Err, refl, sym, ◌∙◌, ap, subst, arith, length-drop, IsTrue}
-use Rattle.std.specs.Prelude.{◌==◌, nat_le, unwrap_or, count_by}
-use Rattle.std.specs.List.{flat_map, AllByRecursion, range_with_len}
+use Rattle.std.proofs.Common.{◌≡◌, inl, inr, ℕ, zero, suc, ◌+◌, ◌-◌, ◌*◌, ◌/◌, ◌<◌, ◌≤◌, ◌^◌, Bool, true, false, cond, List, [], ◌∷◌, ◌++◌, length, map, drop, get_or, Option, Some, None, Ok, Err, refl, sym, ◌∙◌, ap, subst, arith, length-drop, IsTrue}
+use Rattle.std.specs.Prelude.{◌==◌, unwrap_or, count_by}
+use Rattle.std.specs.List.{flat_map, AllByRecursion}
 use Rattle.std.specs.FinMap as maps
-use Rattle.std.proofs.lemmas.Bool.{cases_Bool, cases_eq, cases_lt, eqb-true, eq-eqb, ne_eqb, false≢true, or_left, or_right, or_parts, and_parts, leb-true}
+use Rattle.std.proofs.lemmas.Bool.{cases_Bool, cases_lt, eqb-true, eq-eqb, false≢true, or_left, or_right, or_parts}
 use Rattle.std.proofs.lemmas.List.{length-map, get_or_past}
 use Rattle.std.proofs.lemmas.List.Folds.{list_any_at}
 use Rattle.std.proofs.lemmas.List.FromFn.{length-map-range_with_len}
@@ -11,21 +11,20 @@ use Rattle.std.proofs.lemmas.Nat.{div-mul-add, div_below, le-div}
 use Rattle.std.proofs.Math.Nat.{div-le_self}
 use Rattle.vec_record.specs.Held as held
 use Rattle.vec_record.specs.Vectors.{IsWidth}
-use Rattle.vec_record.specs.Limits.{are_within, is_between, greatest_dim, width_of}
+use Rattle.vec_record.specs.Limits.{are_within, width_of}
 use Rattle.page_gate.specs.Gate.{number_4, count_of}
 use Rattle.page_gate.specs.Writes.{IsPlan, written, new_count}
-use Rattle.page_layout.specs.declared.fault.LayoutFault.{LayoutFault}
 use Rattle.page_layout.specs.declared.fault.LayoutFault.TheVariants as layout_fault
 use Rattle.page_layout.specs.Fields.{Field, first_bad, unless_bad, zero_fields}
 use Rattle.page_layout.specs.Heads.{Values, HeadValue, IsHead, known_version, head_of, head_in, head_page, head_fields}
-use Rattle.page_layout.specs.Bodies.{Rows, AreRows, IsRow, IsSlot, slots_in_page, body_page}
+use Rattle.page_layout.specs.Bodies.{Rows, IsRow, slots_in_page, body_page}
 use Rattle.page_layout.specs.Laws.{BodiesHaveOneSpelling, HeadsHaveOneSpelling, WrittenArePages}
-use Rattle.store_image.specs.Images.{Image, Places, number_of, entry_of, vectors_of}
+use Rattle.store_image.specs.Images.{Places, number_of, entry_of, vectors_of}
 use Rattle.store_image.specs.Loading.{in_page, head_in_pages, slots_in, page_limit, first_repeated, load_of, image_with}
 use Rattle.store_image.specs.Placing.{kept, unplaced, filled, placed, slot_for, rows_at, next_head, pages_with, saved_pages, writes_from, AreAt, CanStand, CanSave}
 use Rattle.store_image.specs.Steps.{Saves, saved_image}
 use Rattle.store_image.proofs.Numbers.{has, Apart, once_apart, apart_once}
-use Rattle.store_image.proofs.Placed.{Whole, has_filled, has_kept, has_unplaced, has_placed, apart_placed, apart_saved, has_saved, zero_unplaced, full_or_same, length-filled, length-kept, length-placed}
+use Rattle.store_image.proofs.Placed.{Whole, has_placed, apart_placed, apart_saved, has_saved, zero_unplaced, full_or_same, length-filled, length-kept, length-placed}
 use Rattle.store_image.proofs.Entries.{NoZero, is_used, count_used, len_used, record_so, slots_are_numbered, numbers_back, same_vectors}
 use Rattle.store_image.proofs.Reading.{read_head_is, head_value, head_in_is, slots_length, pages_read, load_passes}
 use Rattle.store_image.proofs.Counting.{cap_small}

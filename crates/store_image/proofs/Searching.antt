@@ -1,21 +1,20 @@
 -- Looking a number up, and numbers that take slots one by one.
-use Rattle.std.proofs.Common.{◌≡◌, ◌⊎◌, inl, inr, ⊎_elim, ℕ, zero, suc, ◌+◌, ◌-◌, ◌<◌, ◌≤◌, Bool, true, false, cond, not, ◌&&◌, List, [], ◌∷◌, ◌++◌, length, map, take, drop, set, get_or, Result, Ok, Err, refl, sym, ◌∙◌, ap, subst, arith, append_assoc}
-use Rattle.std.specs.Prelude.{◌==◌, is_ok, MatchResult, replicate}
+use Rattle.std.proofs.Common.{◌≡◌, inl, inr, ℕ, zero, suc, ◌+◌, ◌<◌, ◌≤◌, Bool, true, false, cond, not, ◌&&◌, List, [], ◌∷◌, ◌++◌, length, map, take, drop, set, get_or, Result, Ok, Err, refl, sym, ◌∙◌, ap, subst, arith, append_assoc}
+use Rattle.std.specs.Prelude.{◌==◌, is_ok, MatchResult}
 use lib.Dec.{T}
-use Rattle.std.specs.List.{list_any, filter}
+use Rattle.std.specs.List.{filter}
 use Rattle.std.specs.List.Sorted.{IsNonDecreasing, IsBinarySearchResult}
-use Rattle.std.specs.Ordering.{nat_cmp, is_lt, is_eq}
-use Rattle.std.specs.declared.cmp.Ordering.{Ordering}
+use Rattle.std.specs.Ordering.{nat_cmp, is_lt}
 use Rattle.std.specs.declared.cmp.Ordering.TheVariants.{Less, Equal, Greater}
 use Rattle.std.specs.FinMap as maps
 use Rattle.std.specs.FinMap.{is_sorted}
 use Rattle.std.specs.FinMap.Entries.{below_all}
-use Rattle.std.proofs.lemmas.Bool.{cases_Bool, cases_lt, eqb-true, eq-eqb, ne_eqb, le-ltb, false≢true}
-use Rattle.std.proofs.lemmas.List.{get_or_default, take_more, take_more_set, drop_more, drop-set-lt, take_all, drop_all}
+use Rattle.std.proofs.lemmas.Bool.{cases_lt, eq-eqb, ne_eqb, le-ltb}
+use Rattle.std.proofs.lemmas.List.{get_or_default, take_more, take_more_set, drop_more, drop-set-lt, drop_all}
 use Rattle.std.proofs.lemmas.List.Folds.{list_any_none, list_any_at}
 use Rattle.std.proofs.lemmas.List.Sorted.{searched}
 use Rattle.vec_record.specs.Held as held
-use Rattle.store_image.specs.Placing.{kept, unplaced, filled, padded}
+use Rattle.store_image.specs.Placing.{kept, filled}
 use Rattle.store_image.proofs.Numbers.{has}
 use Rattle.store_image.proofs.Placed.{has_keys}
 

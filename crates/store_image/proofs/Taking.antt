@@ -1,6 +1,6 @@
 -- Slots that are read page by page, and taken one by one.
-use Rattle.std.proofs.Common.{◌≡◌, ◌⊎◌, inl, inr, ⊎_elim, ℕ, zero, suc, ◌+◌, ◌-◌, ◌<◌, ◌≤◌, Bool, true, false, cond, not, ◌&&◌, ◌||◌, List, [], ◌∷◌, ◌++◌, length, map, drop, reverse, Option, Some, None, Result, Ok, Err, refl, sym, ◌∙◌, ap, subst, arith, append_assoc, length-append}
-use Rattle.std.specs.Prelude.{◌==◌, is_some}
+use Rattle.std.proofs.Common.{◌≡◌, inl, inr, ℕ, ◌+◌, ◌≤◌, true, false, List, [], ◌∷◌, ◌++◌, length, map, drop, reverse, Option, Some, None, Result, Ok, Err, refl, sym, ◌∙◌, ap, subst, arith, append_assoc, length-append}
+use Rattle.std.specs.Prelude.{is_some}
 use Rattle.std.specs.List.{flat_map, AllByRecursion}
 use Rattle.std.specs.declared.cmp.Ordering.{Ordering}
 use Rattle.std.specs.declared.cmp.Ordering.TheVariants.{Less, Equal, Greater}
@@ -149,6 +149,10 @@ taking_length v all rest numbers records t =
     let n : length numbers ≡ length t.done = ap length t.numbers_are ∙ length-map t.done number_of in
     omega (arith, a, n)
 
+-- no record stands in no records
+pub none_stand : (v : Values) → AllByRecursion (CanStand v) (maps.entries (maps.empty {X = List ℕ} {R = nat_cmp}))
+none_stand v = subst (AllByRecursion (CanStand v)) (sym (nil_from_length (maps.entries maps.empty) (sym (maps.len-entries maps.empty) ∙ maps.len-empty nat_cmp (List ℕ)))) tt
+
 pub taking_start : (v : Values) (all : Rows) (records : held.Held) → AllByRecursion (IsRow v) all → records ≡ record { width = width_of v.metric v.dim; vectors = maps.empty } → Taking v all all [] records
 taking_start v all records all_lawful is = record {
   done = [];
@@ -157,11 +161,8 @@ taking_start v all records all_lawful is = record {
   numbers_are = refl;
   once = refl;
   records_are = is;
-  stand = subst (λ (r : held.Held). AllByRecursion (CanStand v) (maps.entries r.vectors)) (sym is) none_stand;
+  stand = subst (λ (r : held.Held). AllByRecursion (CanStand v) (maps.entries r.vectors)) (sym is) (none_stand v);
 }
-  where
-    none_stand : AllByRecursion (CanStand v) (maps.entries (maps.empty {X = List ℕ} {R = nat_cmp}))
-    none_stand = subst (AllByRecursion (CanStand v)) (sym (nil_from_length (maps.entries maps.empty) (sym (maps.len-entries maps.empty) ∙ maps.len-empty nat_cmp (List ℕ)))) tt
 
 pub taking_end : (v : Values) (all : Rows) (numbers : List ℕ) (records : held.Held) → Taking v all [] numbers records → Took v all numbers records
 taking_end v all numbers records t =

@@ -1,6 +1,6 @@
 -- The load checks: what a list of pages, from page 1 on, says as a store, or the first check that fails.
 use Rattle.std.specs.Prelude.{◌≡◌, ℕ, ◌+◌, ◌-◌, ◌/◌, ◌%◌, ◌==◌, ◌&&◌, not, nat_le, if◌then◌else◌, Bool, List, [], ◌∷◌, ◌++◌, length, take, drop, map, find, get_or, count_by, Option, Some, None, Result, Ok, Err}
-use Rattle.std.specs.List.{flat_map, list_any, range_with_len}
+use Rattle.std.specs.List.{list_any, range_with_len}
 use Rattle.vec_record.specs.Limits.{width_of}
 use Rattle.page_layout.specs.declared.fault.LayoutFault as layout
 use Rattle.page_layout.specs.declared.fault.LayoutFault.TheVariants as layout_fault

@@ -1,5 +1,5 @@
 -- A state that a load makes of a head and slots.
-use Rattle.std.specs.Prelude.{◌≡◌, ℕ, ◌==◌, ◌≤◌, not, List, map, length, drop, count_by, None}
+use Rattle.std.specs.Prelude.{◌≡◌, ℕ, ◌==◌, ◌≤◌, not, map, count_by, None}
 use Rattle.std.specs.List.{AllByRecursion}
 use Rattle.std.specs.FinMap as maps
 use Rattle.page_layout.specs.Heads.{HeadValue}

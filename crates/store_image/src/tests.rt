@@ -196,10 +196,9 @@ fn places(rt: HostRuntime) -> Result<(), Fail> {
 /// The numbers from 1 on, with a byte each.
 fn up_to(alloc: Global, last: Number) -> Result<Vec<(Number, u8)>, AllocError> {
     let mut table = Vec::new(alloc);
-    for number in 1..last {
+    for number in 1..=last {
         table.push((number, 1))?;
     }
-    table.push((last, 1))?;
     Ok(table)
 }
 

@@ -1,9 +1,7 @@
-use Rattle.std.proofs.Common.{◌≡◌, List, length, drop, Ok, Err, MatchResult, sym, ◌∙◌, ap, subst}
+use Rattle.std.proofs.Common.{Ok, sym, ◌∙◌, ap, subst}
 use Rattle.std.proofs.lemmas.Result.{err_from_is_err_and, MatchResult-weaker}
 use Rattle.page_layout.specs.Heads.{plain}
-use Rattle.store_image.specs.Images.{image_of}
-use Rattle.store_image.specs.Loading.{load_of, Fails}
-use Rattle.store_image.specs.States.{IsState}
+use Rattle.store_image.specs.Loading.{Fails}
 use Rattle.store_image.proofs.Reading.{load_passes}
 use Rattle.store_image.proofs.Counting.{load_is, load_no_head, load_no_slots}
 use Rattle.store_image.proofs.loading.load.Goals as goal

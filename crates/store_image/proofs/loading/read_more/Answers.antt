@@ -1,7 +1,6 @@
-use Rattle.std.proofs.Common.{◌≡◌, sym, ◌∙◌, ap, ◌+◌, List}
+use Rattle.std.proofs.Common.{sym, ◌∙◌, ap, ◌+◌}
 use Rattle.std.proofs.lemmas.Result.{err_from_is_err_and}
 use Rattle.page_layout.specs.Heads.{values_of}
-use Rattle.page_layout.specs.Bodies.{Rows}
 use Rattle.store_image.specs.Steps.{slots_behind}
 use Rattle.store_image.proofs.Taking.{behind_more, behind_fails}
 use Rattle.store_image.proofs.loading.read_more.Goals as goal

@@ -1,9 +1,7 @@
-use Rattle.std.proofs.Common.{◌≡◌, ℕ, ◌≤◌, List, length, map, drop, None, refl, sym, ◌∙◌, ap, subst, arith}
-use Rattle.std.specs.Prelude.{count_by}
+use Rattle.std.proofs.Common.{◌≡◌, ◌≤◌, length, map, drop, None, sym, ◌∙◌, ap}
 use Rattle.page_layout.specs.Heads.{values_of, plain}
 use Rattle.store_image.specs.Images.{number_of}
 use Rattle.store_image.specs.Loading.{page_limit, first_repeated}
-use Rattle.store_image.proofs.Entries.{is_used}
 use Rattle.store_image.proofs.Counting.{pages_few, rows_few, took_count, counted_otherwise}
 use Rattle.store_image.proofs.loading.take_state.Goals as goal
 

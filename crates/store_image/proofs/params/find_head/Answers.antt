@@ -1,7 +1,6 @@
-use Rattle.std.proofs.Common.{◌≡◌, ◌⊎◌, ⊎_elim, ℕ, ◌<◌, List, [], length, get_or, Ok, Err, MatchResult, Result, sym, ◌∙◌, ap, subst, arith}
+use Rattle.std.proofs.Common.{◌≡◌, ⊎_elim, ℕ, ◌<◌, List, [], length, Ok, Err, MatchResult, Result, sym, ◌∙◌, ap, subst, arith}
 use Rattle.std.proofs.lemmas.List.{get_or_past}
 use Rattle.page_layout.specs.Heads.{HeadValue, plain, head_of}
-use Rattle.page_layout.specs.declared.fault.LayoutFault.{LayoutFault}
 use Rattle.store_image.specs.declared.fault.StoreFault.{StoreFault}
 use Rattle.store_image.specs.Loading.{in_page, head_in_pages}
 use Rattle.store_image.proofs.Reading.{head_in_is, no_head}

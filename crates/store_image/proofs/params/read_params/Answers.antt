@@ -1,5 +1,4 @@
-use Rattle.std.proofs.Common.{◌≡◌, Ok, Err, ◌∙◌, ap, refl}
-use Rattle.page_layout.specs.Heads.{HeadValue, Values, plain}
+use Rattle.std.proofs.Common.{ap}
 use Rattle.store_image.specs.Loading.{values_of_head, and_then, params_in_pages}
 use Rattle.store_image.proofs.params.read_params.Goals as goal
 

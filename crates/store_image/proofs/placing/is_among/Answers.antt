@@ -1,4 +1,4 @@
-use Rattle.std.proofs.Common.{◌≡◌, ◌∙◌}
+use Rattle.std.proofs.Common.{◌∙◌}
 use Rattle.store_image.proofs.Searching.{among}
 use Rattle.store_image.proofs.placing.is_among.Goals as goal
 

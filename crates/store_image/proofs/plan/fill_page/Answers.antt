@@ -1,7 +1,7 @@
-use Rattle.std.proofs.Common.{◌≡◌, ℕ, ◌<◌, length, refl, sym, ◌∙◌, ap, arith}
+use Rattle.std.proofs.Common.{◌<◌, refl, ◌∙◌, ap, arith}
 use Rattle.vec_record.specs.Limits.{width_of}
 use Rattle.page_layout.specs.Heads.{values_of}
-use Rattle.page_layout.specs.Bodies.{Rows, IsRow, slots_in_page, body_page}
+use Rattle.page_layout.specs.Bodies.{IsRow, slots_in_page, body_page}
 use Rattle.store_image.specs.Placing.{slot_for}
 use Rattle.store_image.proofs.Filling.{all_at, half_rows, half_free, half_next}
 use Rattle.store_image.proofs.plan.fill_page.Goals as goal

@@ -1,4 +1,4 @@
-use Rattle.std.proofs.Common.{◌≡◌, ◌-◌, ◌++◌, length, take}
+use Rattle.std.proofs.Common.{◌≡◌, ◌-◌, ◌++◌, take}
 use Rattle.std.specs.Prelude.{map, replicate, None}
 use Rattle.vec_record.specs.Limits.{width_of}
 use Rattle.page_layout.specs.Bodies.{slots_in_page, body_page}

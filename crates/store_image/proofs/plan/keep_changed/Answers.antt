@@ -1,8 +1,7 @@
 use Rattle.std.proofs.Common.{◌≡◌, ℕ, ◌+◌, ◌-◌, Bool, false, cond, List, [], ◌∷◌, ◌++◌, sym, ◌∙◌, ap, arith}
 use Rattle.std.proofs.lemmas.Bool.{not-true}
-use Rattle.page_gate.specs.declared.page.PageWrite.{PageWrite}
 use Rattle.page_gate.specs.Writes.{pairs}
-use Rattle.store_image.specs.Steps.{is_as_was, one_write}
+use Rattle.store_image.specs.Steps.{is_as_was}
 use Rattle.store_image.proofs.Writes.{pairs_push}
 use Rattle.store_image.proofs.plan.keep_changed.Goals as goal
 

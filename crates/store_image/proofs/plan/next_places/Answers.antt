@@ -1,7 +1,6 @@
 use Rattle.std.proofs.Common.{◌≡◌, ℕ, ◌<◌, ◌^◌, get_or, List, sym, ◌∙◌, ap, subst}
 use Rattle.vec_record.specs.Limits.{width_of}
 use Rattle.page_layout.specs.Heads.{plain}
-use Rattle.page_layout.specs.Bodies.{slots_in_page}
 use Rattle.store_image.specs.Placing.{kept, unplaced, filled, padded, placed}
 use Rattle.store_image.specs.Steps.{Saves}
 use Rattle.store_image.proofs.Saved.{saves}

@@ -1,7 +1,7 @@
-use Rattle.std.proofs.Common.{◌≡◌, ℕ, ◌+◌, ◌-◌, ◌*◌, ◌/◌, ◌<◌, ◌≤◌, List, [], ◌∷◌, ◌++◌, length, map, take, drop, get_or, sym, ◌∙◌, ap, subst, arith}
+use Rattle.std.proofs.Common.{◌≡◌, ℕ, ◌+◌, ◌-◌, ◌*◌, ◌/◌, ◌<◌, ◌≤◌, List, [], ◌++◌, length, map, take, drop, get_or, sym, ◌∙◌, ap, subst, arith}
 use Rattle.vec_record.specs.Limits.{width_of}
 use Rattle.page_gate.specs.Writes.{pairs}
-use Rattle.page_layout.specs.Heads.{HeadValue, values_of, plain}
+use Rattle.page_layout.specs.Heads.{values_of, plain}
 use Rattle.page_layout.specs.Bodies.{IsRow, slots_in_page, body_page}
 use Rattle.store_image.specs.Placing.{slot_for, pages_with, writes_from}
 use Rattle.store_image.specs.Steps.{one_write}

@@ -1,4 +1,4 @@
-use Rattle.std.proofs.Common.{◌≡◌, ◌-◌, ◌++◌, length, drop}
+use Rattle.std.proofs.Common.{◌≡◌, ◌-◌, ◌++◌, drop}
 use Rattle.page_gate.specs.Writes.{pairs}
 use Rattle.page_layout.specs.Heads.{plain}
 use Rattle.store_image.specs.Placing.{pages_with, writes_from}
