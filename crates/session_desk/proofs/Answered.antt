@@ -13,15 +13,15 @@ within s input few =
     let fits : nat_le (length input) input_limit ≡ true = grind (arith, nat_tests) in
     ap (λ (b : Bool). cond b (report_on s (rows_of s.metric s.dim input)) (due TooLong (codes "session too long\n"))) fits
 
-pub report_due : (words : Option Setting) (s : Setting) (left input seen : List ℕ) (st : status.Status) (text : List ℕ) → words ≡ Some s → left ≡ input → seen ≡ input → length input ≤ input_limit → IsDue st text (report_on s (rows_of s.metric s.dim seen)) → text ≡ (answer_of words left).text
-report_due words s left input seen st text is same looked few given =
-    let to : answer_of words left ≡ report_on s (rows_of s.metric s.dim input) = ap (λ (w : Option Setting). answer_of w left) is ∙ ap (answer_to s) same ∙ within s input few in
+pub report_due : (s : Setting) (left input seen : List ℕ) (st : status.Status) (text : List ℕ) → left ≡ input → seen ≡ input → length input ≤ input_limit → IsDue st text (report_on s (rows_of s.metric s.dim seen)) → text ≡ (answer_to s left).text
+report_due s left input seen st text same looked few given =
+    let to : answer_to s left ≡ report_on s (rows_of s.metric s.dim input) = ap (answer_to s) same ∙ within s input few in
     given.same_text ∙ ap (λ (l : List ℕ). (report_on s (rows_of s.metric s.dim l)).text) looked ∙ ap (λ (d : Due). d.text) (sym to)
 
-pub too_long_due : (words : Option Setting) (s : Setting) (left : List ℕ) → words ≡ Some s → input_limit < length left → codes "session too long\n" ≡ (answer_of words left).text
-too_long_due words s left is long =
+pub too_long_due : (s : Setting) (left : List ℕ) → input_limit < length left → codes "session too long\n" ≡ (answer_to s left).text
+too_long_due s left long =
     let fails : nat_le (length left) input_limit ≡ false = grind (arith, nat_tests) in
-    sym (ap (λ (w : Option Setting). (answer_of w left).text) is ∙ ap (λ (b : Bool). (cond b (report_on s (rows_of s.metric s.dim left)) (due TooLong (codes "session too long\n"))).text) fails)
+    sym (ap (λ (b : Bool). (cond b (report_on s (rows_of s.metric s.dim left)) (due TooLong (codes "session too long\n"))).text) fails)
 
 pub usage_due : (words : Option Setting) (left : List ℕ) → words ≡ None → usage_text ≡ (answer_of words left).text
 usage_due words left is = sym (ap (λ (w : Option Setting). (answer_of w left).text) is)

@@ -1,3 +1,14 @@
 pub mod Answered
 pub mod Batches
-pub mod Saying
+pub mod Spoken
+pub mod Going
+pub mod Bearings
+pub mod Replies
+pub mod LineParts
+pub mod Skipped
+pub mod Asking
+pub mod Passing
+pub mod Talking
+pub mod Turns
+pub mod Serving
+pub mod LifeLaws

@@ -5,3 +5,15 @@ pub mod Reading
 pub mod Input
 pub mod Answers
 pub mod Moments
+pub mod Lines
+pub mod Filling
+pub mod Session
+pub mod Asking
+pub mod Passing
+pub mod Courses
+pub mod Headline
+pub mod Births
+pub mod Bearing
+pub mod Talks
+pub mod Opened
+pub mod Lives

@@ -1,9 +1,10 @@
 -- The words of the command line.
-use Rattle.std.specs.Prelude.{ℕ, if◌then◌else◌, List, [], ◌∷◌, Option, Some, None, codes}
+use Rattle.std.specs.Prelude.{ℕ, Bool, true, false, if◌then◌else◌, List, [], ◌∷◌, Option, Some, None, codes}
 use Rattle.std.specs.Str.{bytes_eq}
 use Rattle.vec_record.specs.declared.kind.MetricKind.{MetricKind}
 use Rattle.vec_record.specs.declared.kind.MetricKind.TheVariants.{L1, Max, Hamming}
 use Rattle.vec_record.specs.Limits.{are_within}
+use Rattle.page_layout.specs.Heads.{Values}
 use Rattle.batch_text.specs.Numbers.{number_of, within}
 
 -- What `once` is asked for.
@@ -41,3 +42,49 @@ abbrev pub setting_of : List (List ℕ) → Option Setting
 setting_of (once ∷ metric ∷ dim ∷ eps ∷ minpts ∷ []) =
     if bytes_eq once (codes "once") then checked (metric_named metric) (number_in dim) (number_in eps) (number_in minpts) else None
 setting_of words = None
+
+-- what the words ask the program for
+pub data Command : Type 0 where
+  Once : Setting → Command
+  Init : Values → Command
+  Serve : Command
+
+abbrev pub once_of : Option Setting → Option Command
+once_of None = None
+once_of (Some s) = Some (Once s)
+
+-- the parameters of a new store, where all values are there and within their limits
+abbrev pub checked_values : Option MetricKind → Option ℕ → Option ℕ → Option ℕ → Option ℕ → Option Command
+checked_values None dim eps minpts cap = None
+checked_values (Some metric) None eps minpts cap = None
+checked_values (Some metric) (Some dim) None minpts cap = None
+checked_values (Some metric) (Some dim) (Some eps) None cap = None
+checked_values (Some metric) (Some dim) (Some eps) (Some minpts) None = None
+checked_values (Some metric) (Some dim) (Some eps) (Some minpts) (Some cap) =
+    if are_within metric dim eps minpts cap then Some (Init (record { metric = metric; dim = dim; eps = eps; minpts = minpts; cap = cap })) else None
+
+-- the words `init METRIC DIM EPS MINPTS CAP`
+abbrev pub init_of : List (List ℕ) → Option Command
+init_of (init ∷ metric ∷ dim ∷ eps ∷ minpts ∷ cap ∷ []) =
+    if bytes_eq init (codes "init") then checked_values (metric_named metric) (number_in dim) (number_in eps) (number_in minpts) (number_in cap) else None
+init_of words = None
+
+-- the word `serve`
+abbrev pub is_serve : List (List ℕ) → Bool
+is_serve (serve ∷ []) = bytes_eq serve (codes "serve")
+is_serve words = false
+
+abbrev pub or_else : Option Command → Option Command → Option Command
+or_else None next = next
+or_else (Some command) next = Some command
+
+-- what all the words ask for, where they have a known form
+abbrev pub command_of : List (List ℕ) → Option Command
+command_of words = if is_serve words then Some Serve else or_else (init_of words) (once_of (setting_of words))
+
+-- whether the words ask for a store; `once` and refused words ask for none
+abbrev pub asks_store : Option Command → Bool
+asks_store None = false
+asks_store (Some (Once s)) = false
+asks_store (Some (Init v)) = true
+asks_store (Some Serve) = true

@@ -4,9 +4,17 @@
 //! status, and when each status may come, as functions of the words and the whole input.
 #![tactic(auto)]
 
+mod answering;
+mod birth;
+mod converse;
 mod input;
+pub mod laws;
+pub mod lines;
 mod once;
 mod reading;
+mod requests;
+mod saying;
+mod serve;
 pub mod status;
 #[cfg(test)]
 mod tests;
@@ -14,5 +22,8 @@ mod texts;
 pub mod top;
 mod words;
 
+pub use lines::{LineReader, SessionLine};
+pub use reading::ReadFault;
+pub use serve::AnyWarehouse;
 pub use status::Status;
 pub use top::run;

@@ -1,17 +1,24 @@
-ghost use Rattle.std.specs.Prelude.{◌≡◌, ◌≤◌, ◌++◌, IfOk, OnOk, Ok, ◌⊎◌, length};
+ghost use Rattle.std.specs.Prelude.{◌≡◌, ◌≤◌, ◌+◌, ◌++◌, ℕ, List, [], take, false, IsTrue, IfOk, OnOk, Ok, ◌⊎◌, length};
 ghost use Rattle.std.specs.FinMap as map;
 ghost use Rattle.vec_record.specs.Distance.{distance_of};
 ghost use Rattle.plain_dbscan.specs.Marks.{density, marks_of};
 ghost use Rattle.session_desk.specs.Words.{setting};
 ghost use Rattle.session_desk.specs.Input.{rows_of};
-ghost use Rattle.session_desk.specs.Answers.{IsDue, due, refusal_text as text_of_refusal, report_on};
+ghost use Rattle.session_desk.specs.Answers.{IsDue, due, refusal_text as text_of_refusal, report_on, answer_to};
+ghost use Rattle.site_disk.specs.Causes.{Rose};
+ghost use Rattle.site_disk.specs.State.{Safe};
+ghost use Rattle.session_desk.specs.Moments.{IsSaying, LeavesAlone};
+ghost use Rattle.session_desk.specs.Statuses.{is_fault};
+ghost use Rattle.session_desk.specs.Reading.{IsTaken};
 
 use crate::input::{InputFault, Refusal, read_records};
-use crate::reading::INPUT_LIMIT;
+use crate::reading::{INPUT_LIMIT, ReadFault, read_all};
+use crate::saying::say;
 use crate::status::Status;
-use crate::texts::report_text;
+use crate::texts::{refusal_line, report_text};
 use int_metric::{Hamming, L1, Max};
 use plain_dbscan::{Marks, cluster_plain};
+use site_disk::{Site, Source};
 use std::alloc::{AllocError, Global};
 use std::sync::ledger::Ledger;
 use vec_record::{Bytes, MetricKind, Params, Records, Steps};
@@ -23,30 +30,12 @@ pub struct Answer {
     pub text: Bytes,
 }
 
-/// Appends the line of a refusal.
-fn refusal_text(refusal: Refusal, out: &mut Bytes) -> Result<(), AllocError>
-    ensures { OnOk result (out.new ≡ out.old ++ text_of_refusal refusal) }
-{
-    let alloc = out.allocator();
-    let number = refusal.number();
-    match refusal.place() {
-        None => {
-            let line = format!(in alloc; "refused {number}\n")?;
-            out.append(line.as_bytes())
-        }
-        Some(place) => {
-            let line = format!(in alloc; "refused {number} at {place}\n")?;
-            out.append(line.as_bytes())
-        }
-    }
-}
-
 /// The refusal of an input.
 fn refuse(alloc: Global, refusal: Refusal) -> Result<Answer, AllocError>
     ensures { IfOk result (λ a. IsDue a.status a.text (due Status.Refused (text_of_refusal refusal))) }
 {
     let mut text = Bytes::new(alloc);
-    refusal_text(refusal, &mut text)?;
+    refusal_line(refusal.number(), refusal.place(), &mut text)?;
     Ok(Answer {
         status: Status::Refused,
         text,
@@ -54,7 +43,7 @@ fn refuse(alloc: Global, refusal: Refusal) -> Result<Answer, AllocError>
 }
 
 /// The report on an input within the limit, or its refusal.
-pub fn report<L: Ledger>(
+fn report<L: Ledger>(
     alloc: Global,
     params: &Params,
     input: &[u8],
@@ -110,4 +99,40 @@ fn report_records<L: Ledger>(
         status: Status::Fine,
         text,
     })
+}
+
+/// Reads the whole input as one batch over no records, and says the report or the refusal.
+pub fn run_once<S: Source, T: Site, L: Ledger>(
+    alloc: Global,
+    params: &Params,
+    source: &mut S,
+    site: &mut T,
+    steps: &mut Steps<L>,
+) -> Status
+    requires cap { params.now.cap ≡ 200000 }
+    ensures status { IsTrue S.tells → is_fault result ≡ false → result ≡ (answer_to (setting params.now.metric params.now.dim params.now.eps params.now.minpts) (S.left source.old)).status }
+    ensures text { IsTrue S.tells → IsTrue T.tells → is_fault result ≡ false → (T.state site.new).said ≡ (T.state site.old).said ++ (answer_to (setting params.now.metric params.now.dim params.now.eps params.now.minpts) (S.left source.old)).text }
+    ensures prefix { IsTrue S.tells → IsTrue T.tells → (n : ℕ) × ((T.state site.new).said ≡ (T.state site.old).said ++ take n (answer_to (setting params.now.metric params.now.dim params.now.eps params.now.minpts) (S.left source.old)).text) }
+    ensures moments { IsTrue S.tells → IsTrue T.tells → Safe (T.state site.old) (T.state site.new) (IsSaying (T.state site.old) (answer_to (setting params.now.metric params.now.dim params.now.eps params.now.minpts) (S.left source.old)).text) }
+    ensures alone { IsTrue T.tells → LeavesAlone (T.state site.old) (T.state site.new) }
+    ensures known { result ≡ Status.Words → ⊥ }
+    ensures site { result ≡ Status.SiteFault → Rose (T.faults site.old) (T.faults site.new) }
+    ensures source { result ≡ Status.SourceFault → Rose (S.faults source.old) (S.faults source.new) }
+    ensures quiet { IsTrue T.tells → (result ≡ Status.SourceFault) ⊎ (result ≡ Status.Memory) → (T.state site.new).said ≡ (T.state site.old).said }
+    ensures begins { IsTrue T.tells → (more : List ℕ) × ((T.state site.new).said ≡ (T.state site.old).said ++ more) }
+    ensures taken { IsTrue S.tells → IsTaken (INPUT_LIMIT + 1) (S.left source.old) (S.left source.new) }
+    ensures ended { IsTrue S.tells → (result ≡ Status.Fine) ⊎ (result ≡ Status.Refused) → S.left source.new ≡ [] }
+    ensures source_later { S.faults source.old ≤ S.faults source.new }
+    ensures site_later { T.faults site.old ≤ T.faults site.new }
+{
+    let input = match read_all(alloc, source) {
+        Ok(input) => input,
+        Err(ReadFault::Source) => return Status::SourceFault,
+        Err(ReadFault::TooMuch) => return say(site, Status::TooLong, b"session too long\n"),
+        Err(ReadFault::Memory) => return Status::Memory,
+    };
+    match report(alloc, params, &input, steps) {
+        Ok(answer) => say(site, answer.status, answer.text.as_slice()),
+        Err(_) => Status::Memory,
+    }
 }

@@ -8,6 +8,10 @@ use std::sync::ledger::{Blank, Ledger};
 use std::test::Fail;
 use vec_record::{Bytes, Numbers, Steps};
 
+mod crashes;
+mod lives;
+mod stores;
+
 const USAGE: &str =
     "usage: once METRIC DIM EPS MINPTS, init METRIC DIM EPS MINPTS CAP, serve, check, trial SEED COUNT\n";
 

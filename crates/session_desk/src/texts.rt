@@ -3,6 +3,7 @@
 ghost use Rattle.std.specs.Prelude.{◌≡◌, ◌++◌, ℕ, length, count_by, OnOk};
 ghost use Rattle.plain_dbscan.specs.Texts as text;
 ghost use Rattle.plain_dbscan.specs.declared.marks.Mark.{Mark as AnyMark};
+ghost use Rattle.session_desk.specs.Answers.{refusal_line as line_of_refusal};
 
 use plain_dbscan::{Mark, Marks};
 use std::alloc::AllocError;
@@ -112,4 +113,21 @@ pub fn report_text(marks: &Marks, out: &mut Bytes) -> Result<(), AllocError>
         label_text(*number, *mark, out)?;
     }
     summary_text(marks, out)
+}
+
+/// Appends the line of a refusal.
+pub fn refusal_line(number: u32, place: Option<u32>, out: &mut Bytes) -> Result<(), AllocError>
+    ensures { OnOk result (out.new ≡ out.old ++ line_of_refusal number place) }
+{
+    let alloc = out.allocator();
+    match place {
+        None => {
+            let line = format!(in alloc; "refused {number}\n")?;
+            out.append(line.as_bytes())
+        }
+        Some(place) => {
+            let line = format!(in alloc; "refused {number} at {place}\n")?;
+            out.append(line.as_bytes())
+        }
+    }
 }

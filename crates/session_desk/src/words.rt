@@ -1,12 +1,19 @@
 ghost use Rattle.std.specs.Prelude.{◌≡◌, map, string_bytes};
-ghost use Rattle.session_desk.specs.Words.{metric_named as named, number_in, checked, setting_of};
-ghost use Rattle.session_desk.specs.Settings.{IsSetting};
+ghost use Rattle.session_desk.specs.Words.{metric_named as named, number_in, checked, checked_values, setting_of, init_of, is_serve, command_of};
+ghost use Rattle.session_desk.specs.Settings.{IsSetting, IsInit, IsTask};
 
 use batch_text::number::number_within;
 use vec_record::{MetricKind, Params};
 
-/// The most records of a store, and of one that `once` clusters.
+/// The most records that `once` clusters.
 const CAP: u32 = 200_000;
+
+/// What the words ask the program for.
+pub enum Task {
+    Once(Params),
+    Init(Params),
+    Serve,
+}
 
 /// The metric of a name.
 fn metric_named(word: &str) -> Option<MetricKind>
@@ -20,7 +27,7 @@ fn metric_named(word: &str) -> Option<MetricKind>
     }
 }
 
-/// The parameters of these values, where all are there and within their limits.
+/// The parameters of `once` with these values, where all are there and within their limits.
 fn make_params(
     metric: Option<MetricKind>,
     dim: Option<u32>,
@@ -32,6 +39,19 @@ fn make_params(
     Params::check(metric?, dim?, eps?, minpts?, CAP)
 }
 
+/// The parameters of a new store with these values, where all are there and within their limits.
+fn make_store_params(
+    metric: Option<MetricKind>,
+    dim: Option<u32>,
+    eps: Option<u32>,
+    minpts: Option<u32>,
+    cap: Option<u32>,
+) -> Option<Params>
+    ensures { IsInit result (checked_values metric dim eps minpts cap) }
+{
+    Params::check(metric?, dim?, eps?, minpts?, cap?)
+}
+
 /// The number that a word says.
 fn number(word: &str) -> Option<u32>
     ensures { result ≡ number_in word.now }
@@ -40,7 +60,7 @@ fn number(word: &str) -> Option<u32>
 }
 
 /// The parameters that the words `once METRIC DIM EPS MINPTS` give, or `None` for any other words.
-pub fn read_words(words: &[String]) -> Option<Params>
+fn read_once(words: &[String]) -> Option<Params>
     ensures { IsSetting result (setting_of (map string_bytes words.now)) }
 {
     let [once, metric, dim, eps, minpts] = words else {
@@ -56,4 +76,59 @@ pub fn read_words(words: &[String]) -> Option<Params>
         number(eps.as_str()),
         number(minpts.as_str()),
     )
+}
+
+/// The parameters that the words METRIC DIM EPS MINPTS CAP give a new store.
+fn read_store_params(metric: &str, dim: &str, eps: &str, minpts: &str, cap: &str) -> Option<Params>
+    ensures { IsInit result (checked_values (named metric.now) (number_in dim.now) (number_in eps.now) (number_in minpts.now) (number_in cap.now)) }
+{
+    make_store_params(
+        metric_named(metric),
+        number(dim),
+        number(eps),
+        number(minpts),
+        number(cap),
+    )
+}
+
+/// The parameters that the words `init METRIC DIM EPS MINPTS CAP` give, or `None` for any other words.
+fn read_init(words: &[String]) -> Option<Params>
+    ensures { IsInit result (init_of (map string_bytes words.now)) }
+{
+    let [init, metric, dim, eps, minpts, cap] = words else {
+        return None;
+    };
+    if init.as_str() != "init" {
+        return None;
+    }
+    read_store_params(
+        metric.as_str(),
+        dim.as_str(),
+        eps.as_str(),
+        minpts.as_str(),
+        cap.as_str(),
+    )
+}
+
+/// Whether the words are `serve`.
+fn are_serve(words: &[String]) -> bool
+    ensures { result ≡ is_serve (map string_bytes words.now) }
+{
+    let [serve] = words else {
+        return false;
+    };
+    serve.as_str() == "serve"
+}
+
+/// What the words ask for, or `None` for words of no known form.
+pub fn read_words(words: &[String]) -> Option<Task>
+    ensures { IsTask result (command_of (map string_bytes words.now)) (setting_of (map string_bytes words.now)) }
+{
+    if are_serve(words) {
+        return Some(Task::Serve);
+    }
+    if let Some(params) = read_init(words) {
+        return Some(Task::Init(params));
+    }
+    Some(Task::Once(read_once(words)?))
 }

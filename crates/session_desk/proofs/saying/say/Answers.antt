@@ -1,5 +1,5 @@
-use Rattle.session_desk.proofs.Saying.{text_said, spoken}
-use Rattle.session_desk.proofs.top.say.Goals as goal
+use Rattle.session_desk.proofs.Spoken.{text_said, spoken}
+use Rattle.session_desk.proofs.saying.say.Goals as goal
 
 pub returns-in-Ok-clause-moments : goal.returns-in-Ok-clause-moments
 returns-in-Ok-clause-moments g c = λ t. text_said (g.T.Site.state c.args.site.now) (g.T.Site.state c.say.new.self) (g.met.T.Site.is_now c.args.site.now t) c.args.text.now (c.say.ensures.told t)

@@ -1,0 +1,20 @@
+use Rattle.std.proofs.Common.{◌≡◌, ◌≤◌, ◌++◌, List, ℕ, false, IsTrue}
+use Rattle.page_gate.specs.Promises.{Holds}
+use Rattle.session_desk.specs.Talks.{IsServing, IsGoing}
+use Rattle.session_desk.proofs.converse.converse.Given as goal
+
+-- what was read so far is answered and said
+abbrev pub invariant-turns : goal.invariant-turns
+invariant-turns g l = record {
+  going : IsTrue g.S.Source.tells → IsGoing g.T.Site.tells l.fn.warehouse (g.S.Source.left l.fn.source) (g.T.Site.state l.fn.site) l.refused l.warehouse l.reader (g.S.Source.left l.source) (g.T.Site.state l.site);
+  serving : IsServing l.warehouse;
+  ready : IsTrue g.T.Site.tells → Holds l.warehouse.pages (g.T.Site.state l.site);
+  begins : IsTrue g.T.Site.tells → (more : List ℕ) × ((g.T.Site.state l.site).said ≡ (g.T.Site.state l.fn.site).said ++ more);
+  whole : l.reader.failed ≡ false;
+  room : l.reader.room ≤ 67108864;
+  source_later : g.S.Source.faults l.fn.source ≤ g.S.Source.faults l.source;
+  site_later : g.T.Site.faults l.fn.site ≤ g.T.Site.faults l.site;
+}
+
+abbrev pub decreases-turns : goal.decreases-turns
+decreases-turns g l = l.reader.room

@@ -1,0 +1,11 @@
+-- A birth over a blank file. The code alone speaks of this.
+use Rattle.std.specs.Prelude.{◌≡◌, ◌⊎◌, ℕ, true, List, ◌++◌, take, codes}
+use Rattle.site_disk.specs.State.{SiteState}
+use Rattle.page_gate.specs.Gate.{is_blank, opening, Opens}
+use Rattle.page_layout.specs.Heads.{Values}
+use Rattle.session_desk.specs.Births.{new_pages}
+
+-- a prefix of the word was said, over a blank image or the new store
+pub record IsBearing (v : Values) (a : SiteState) (said image : List ℕ) : Type 0 where
+  pub prefix : (n : ℕ) × (said ≡ a.said ++ take n (codes "born\n"))
+  pub image_is : (is_blank image ≡ true) ⊎ (opening image ≡ Opens (new_pages v))

@@ -1,0 +1,61 @@
+-- The headline: what is said is what plain clustering says of the records, and no crash loses an acknowledged batch.
+use Rattle.std.specs.Prelude.{◌≡◌, ◌⊎◌, ℕ, ◌+◌, ◌≤◌, List, [], ◌++◌, length, take}
+use Rattle.site_disk.specs.State.{SiteState, Safe}
+use Rattle.page_gate.specs.Gate.{opening}
+use Rattle.page_gate.specs.Same.{IsOnly}
+use Rattle.store_image.specs.Stores.{IsSound, records_on, batches_on, params_on}
+use Rattle.session_desk.specs.declared.status.Status.{Status}
+use Rattle.session_desk.specs.declared.status.Status.TheVariants.{Fine, Refused, SourceFault, Memory, TooLong}
+use Rattle.session_desk.specs.Session.{acked, answers, text_of, rows_after_all, whole_requests}
+use Rattle.session_desk.specs.Courses.{session, course_text, values_on, accepted}
+
+-- an image is a sound store with the same parameters, and the records after the first m batches that the session accepts
+pub record IsStoreAfter (c input : List ℕ) (m : ℕ) (image : List ℕ) : Type 0 where
+  pub some : m ≤ length (accepted c input)
+  pub sound : IsSound image
+  pub params : params_on image ≡ params_on c
+  pub records : records_on image ≡ rows_after_all (values_on c) (records_on c) (take m (accepted c input))
+  pub batches : batches_on image ≡ batches_on c + m
+
+-- Crash: an image after whole batches, every one among them whose receipt is within the first k bytes said, and at most one more.
+pub record IsCrash (c input : List ℕ) (k : ℕ) (image : List ℕ) : Type 0 where
+  pub m : ℕ
+  pub store : IsStoreAfter c input m image
+  pub holds : acked k (session c input).answers ≤ m
+  pub few : m ≤ acked k (session c input).answers + 1
+
+-- A moment of a session that began at a: k bytes of its text were said, and, over a sound content, either nothing was said and the image is
+-- one of the start, or the image is as above.
+pub record IsMoment (input : List ℕ) (a : SiteState) (said image : List ℕ) : Type 0 where
+  pub k : ℕ
+  pub within : k ≤ length (course_text (session a.content input))
+  pub prefix : said ≡ a.said ++ take k (course_text (session a.content input))
+  pub kept : IsSound a.content → ((said ≡ a.said) × a.may_leave image) ⊎ IsCrash a.content input k image
+
+-- Answers: all of the text was said, and the status is the session's
+pub record SaysAll (input : List ℕ) (result : Status) (a b : SiteState) : Type 0 where
+  pub text : b.said ≡ a.said ++ course_text (session a.content input)
+  pub status : result ≡ (session a.content input).status
+
+-- after a fault of the source: the answers to the whole lines and batches of the bytes that it gave
+pub record SaysWhole (input left : List ℕ) (a b : SiteState) : Type 0 where
+  pub front : List ℕ
+  pub gave : input ≡ front ++ left
+  pub text : b.said ≡ a.said ++ text_of (answers (values_on a.content) (records_on a.content) (batches_on a.content) (whole_requests front))
+
+-- End: one image, with every accepted batch
+pub record KeepsAll (input : List ℕ) (a b : SiteState) : Type 0 where
+  pub only : IsOnly b
+  pub store : IsStoreAfter a.content input (length (accepted a.content input)) b.content
+
+-- each image is one of the start with nothing said, or has exactly the batches whose receipts were said
+abbrev pub IsSettled : List ℕ → SiteState → SiteState → Type 0
+IsSettled input a b =
+    (image : List ℕ) → b.may_leave image
+    → ((b.said ≡ a.said) × a.may_leave image)
+    ⊎ ((k : ℕ) × (k ≤ length (course_text (session a.content input))) × (b.said ≡ a.said ++ take k (course_text (session a.content input)))
+    × IsStoreAfter a.content input (acked k (session a.content input).answers) image)
+
+-- At a moment of a session that isn't begun, over any content: the image is one of the start, or opens as the content does.
+abbrev pub IsUntouched : SiteState → List ℕ → List ℕ → Type 0
+IsUntouched a said image = a.may_leave image ⊎ (opening image ≡ opening a.content)

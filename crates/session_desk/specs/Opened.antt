@@ -1,0 +1,64 @@
+-- The opening of a store. The code alone speaks of this.
+use Rattle.std.specs.Prelude.{◌≡◌, ◌≢◌, ◌⊎◌, ℕ, Bool, true, false, List, [], Option, Some, None, Result, MatchResult, IfErr}
+use Rattle.site_disk.specs.State.{SiteState, Safe}
+use Rattle.page_gate.specs.Gate.{opening, Opens}
+use Rattle.page_gate.specs.Promises.{Holds, IsAsWas, IsRefusal}
+use Rattle.page_gate.specs.Room.{Room}
+use Rattle.page_gate.specs.declared.fault.OpenFault.{OpenFault}
+use Rattle.page_gate.specs.declared.fault.OpenFault.TheVariants.{Blank, Foreign, Damaged, SiteFault, Memory}
+use Rattle.store_image.specs.declared.fault.StoreFault as store
+use Rattle.store_image.specs.declared.fault.StoreFault.TheVariants as store_fault
+use Rattle.store_image.specs.Stores.{IsStore, refusal_on}
+use Rattle.warehouse_core.specs.States.{State, LoadsAs}
+use Rattle.session_desk.specs.declared.serve.AnyWarehouse.{AnyWarehouse}
+use Rattle.session_desk.specs.declared.serve.AnyWarehouse.TheVariants as any
+use Rattle.session_desk.specs.Courses.{Course, course_by}
+
+-- the warehouse, whatever its metric
+abbrev pub state_of : AnyWarehouse → State
+state_of (any.L1 w) = w
+state_of (any.Max w) = w
+state_of (any.Hamming w) = w
+
+-- whether a fault says nothing of the content
+abbrev pub is_outside : OpenFault → Bool
+is_outside Blank = false
+is_outside Foreign = false
+is_outside (Damaged page offset) = false
+is_outside SiteFault = true
+is_outside Memory = true
+
+-- a fault of the load, as that of an opening
+abbrev pub fault_of : store.StoreFault → OpenFault
+fault_of store_fault.Foreign = Foreign
+fault_of (store_fault.Damaged page offset) = Damaged page offset
+fault_of store_fault.Memory = Memory
+
+-- the session over a content that a fault refuses
+abbrev pub refusal_course : OpenFault → Course
+refusal_course fault = course_by (Some fault) [] []
+
+-- each image opens as the content of the start does, unless the site failed
+abbrev pub AreOpened : OpenFault → SiteState → SiteState → Type 0
+AreOpened fault a b = fault ≢ SiteFault → (c : List ℕ) → b.may_leave c → opening c ≡ opening a.content
+
+-- the pages of the store, behind a closed redo gate in the only image, or why it doesn't open
+pub record Opened (result : Result Room OpenFault) (a b : SiteState) : Type 0 where
+  pub safe : Safe a b (IsAsWas a)
+  pub said : b.said ≡ a.said
+  pub list : MatchResult result (λ pages. opening a.content ≡ Opens pages.list) (λ fault. IsRefusal fault (opening a.content))
+  pub holds : MatchResult result (λ pages. Holds pages.list b) (λ fault. AreOpened fault a b)
+
+-- a warehouse that was loaded from pages
+pub record IsLoaded (pages : List (List ℕ)) (w : State) : Type 0 where
+  pub loads : LoadsAs pages w.values w.rows w.batches
+  pub pages_are : w.pages ≡ pages
+  pub stored : w.stored ≡ true
+  pub whole : w.failed ≡ false
+
+-- the store as a warehouse, or why it doesn't open
+pub record Loads (result : Result AnyWarehouse OpenFault) (a b : SiteState) : Type 0 where
+  pub safe : Safe a b (IsAsWas a)
+  pub said : b.said ≡ a.said
+  pub store : MatchResult result (λ w. IsStore (state_of w).values (state_of w).rows (state_of w).batches a.content) (λ fault. is_outside fault ≡ false → refusal_on a.content ≡ Some fault)
+  pub holds : MatchResult result (λ w. Holds (state_of w).pages b) (λ fault. AreOpened fault a b)

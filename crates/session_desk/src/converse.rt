@@ -1,0 +1,124 @@
+//! The session over a warehouse that was loaded.
+ghost use Rattle.std.specs.Prelude.{◌≡◌, ◌≤◌, ◌+◌, ◌++◌, ◌⊎◌, ℕ, List, [], false, true, Ok, Err, IsTrue, IfOk, IfErr, OnOk, length, codes};
+ghost use Rattle.site_disk.specs.Causes.{Rose};
+ghost use Rattle.site_disk.specs.State.{Safe};
+ghost use Rattle.page_gate.specs.Promises.{Holds};
+ghost use Rattle.warehouse_core.specs.Applying.{IsBefore};
+ghost use Rattle.session_desk.specs.Statuses.{is_fault};
+ghost use Rattle.session_desk.specs.Reading.{IsTaken};
+ghost use Rattle.session_desk.specs.Moments.{IsSaying, LeavesAlone};
+ghost use Rattle.session_desk.specs.Session.{Request};
+ghost use Rattle.session_desk.specs.Asking.{IsAsked};
+ghost use Rattle.session_desk.specs.Talks.{IsServing, IsNextState, answer_on, IsReplying, IsTalk, Concludes, IsCutOff, IsKept, IsEven};
+
+use crate::answering::answer;
+use crate::lines::LineReader;
+use crate::reading::{INPUT_LIMIT, ReadFault};
+use crate::requests::{Asked, next_request};
+use crate::saying::say;
+use crate::status::Status;
+use site_disk::{Site, Source};
+use std::alloc::Global;
+use std::sync::ledger::Ledger;
+use store_image::laws::loads_are_stores;
+use vec_record::{Bytes, Metric, Steps};
+use warehouse_core::Warehouse;
+
+/// Answers a request and says the answer. It tells whether that is a refusal, or the status that ends the run.
+fn reply<M: Metric, T: Site, L: Ledger>(
+    alloc: Global,
+    warehouse: &mut Warehouse<M>,
+    asked: Asked,
+    site: &mut T,
+    steps: &mut Steps<L>,
+) -> Result<bool, Status>
+    requires serving { IsServing warehouse.old }
+    requires body { (body : List ℕ) → asked ≡ Asked.Batch body → length body ≤ 67_108_864 }
+    requires ready { IsTrue T.tells → Holds warehouse.old.pages (T.state site.old) }
+    ensures serving { OnOk result (IsServing warehouse.new) }
+    ensures ready { IsTrue T.tells → OnOk result (Holds warehouse.new.pages (T.state site.new)) }
+    ensures state { (q : Request) → IsAsked asked q → OnOk result (IsNextState warehouse.old (answer_on warehouse.old q) warehouse.new) }
+    ensures refused { (q : Request) → IsAsked asked q → IfOk result (λ refused. refused ≡ (answer_on warehouse.old q).refused) }
+    ensures said { IsTrue T.tells → (q : Request) → IsAsked asked q → OnOk result ((T.state site.new).said ≡ (T.state site.old).said ++ (answer_on warehouse.old q).text) }
+    ensures moments { IsTrue T.tells → (q : Request) → IsAsked asked q → Safe (T.state site.old) (T.state site.new) (IsReplying warehouse.old q (T.state site.old)) }
+    ensures unsaved { IsTrue T.tells → (q : Request) → IsAsked asked q → result ≡ Err Status.Memory → (c : List ℕ) → (T.state site.new).may_leave c → IsBefore warehouse.old c }
+    ensures unsaid { IsTrue T.tells → result ≡ Err Status.Memory → (T.state site.new).said ≡ (T.state site.old).said }
+    ensures begins { IsTrue T.tells → (more : List ℕ) × ((T.state site.new).said ≡ (T.state site.old).said ++ more) }
+    ensures status { IfErr result (λ status. (status ≡ Status.SiteFault) ⊎ (status ≡ Status.Memory)) }
+    ensures fault { result ≡ Err Status.SiteFault → Rose (T.faults site.old) (T.faults site.new) }
+    ensures later { T.faults site.old ≤ T.faults site.new }
+{
+    loads_are_stores();
+    let mut text = Bytes::new(alloc);
+    let refused = answer(warehouse, asked, site, &mut text, steps)?;
+    match site.say(text.as_slice()) {
+        Ok(()) => Ok(refused),
+        Err(_) => Err(Status::SiteFault),
+    }
+}
+
+/// Ends a session whose input gives no further request.
+fn break_off<T: Site>(site: &mut T, fault: ReadFault) -> Status
+    ensures status { (result ≡ Status.SourceFault) ⊎ (result ≡ Status.TooLong) ⊎ (result ≡ Status.Memory) ⊎ (result ≡ Status.SiteFault) }
+    ensures source { result ≡ Status.SourceFault → fault ≡ ReadFault.Source }
+    ensures memory { result ≡ Status.Memory → fault ≡ ReadFault.Memory }
+    ensures too_long { result ≡ Status.TooLong → fault ≡ ReadFault.TooMuch }
+    ensures still { (fault ≡ ReadFault.TooMuch → ⊥) → site.new ≡ site.old }
+    ensures said { IsTrue T.tells → result ≡ Status.TooLong → (T.state site.new).said ≡ (T.state site.old).said ++ codes "session too long\n" }
+    ensures moments { IsTrue T.tells → Safe (T.state site.old) (T.state site.new) (IsSaying (T.state site.old) (codes "session too long\n")) }
+    ensures alone { IsTrue T.tells → LeavesAlone (T.state site.old) (T.state site.new) }
+    ensures begins { IsTrue T.tells → (more : List ℕ) × ((T.state site.new).said ≡ (T.state site.old).said ++ more) }
+    ensures fault { result ≡ Status.SiteFault → Rose (T.faults site.old) (T.faults site.new) }
+    ensures later { T.faults site.old ≤ T.faults site.new }
+{
+    match fault {
+        ReadFault::Source => Status::SourceFault,
+        ReadFault::TooMuch => say(site, Status::TooLong, b"session too long\n"),
+        ReadFault::Memory => Status::Memory,
+    }
+}
+
+/// Answers the requests of an input, one by one.
+pub fn converse<M: Metric, S: Source, T: Site, L: Ledger>(
+    alloc: Global,
+    mut warehouse: Warehouse<M>,
+    source: &mut S,
+    site: &mut T,
+    steps: &mut Steps<L>,
+) -> Status
+    requires serving { IsServing warehouse }
+    requires ready { IsTrue T.tells → Holds warehouse.pages (T.state site.old) }
+    ensures answers { IsTrue S.tells → IsTrue T.tells → is_fault result ≡ false → Concludes warehouse (S.left source.old) result (T.state site.old) (T.state site.new) }
+    ensures whole { IsTrue S.tells → IsTrue T.tells → result ≡ Status.SourceFault → IsCutOff warehouse (S.left source.old) (S.left source.new) (T.state site.old) (T.state site.new) }
+    ensures moments { IsTrue S.tells → IsTrue T.tells → Safe (T.state site.old) (T.state site.new) (IsTalk warehouse (S.left source.old) (T.state site.old)) }
+    ensures end { IsTrue S.tells → IsTrue T.tells → is_fault result ≡ false → IsKept warehouse (S.left source.old) (T.state site.new) }
+    ensures settled { IsTrue S.tells → IsTrue T.tells → (result ≡ Status.SourceFault) ⊎ (result ≡ Status.Memory) → IsEven warehouse (S.left source.old) (T.state site.old) (T.state site.new) }
+    ensures status { (result ≡ Status.Fine) ⊎ (result ≡ Status.Refused) ⊎ (result ≡ Status.TooLong) ⊎ (is_fault result ≡ true) }
+    ensures site { result ≡ Status.SiteFault → Rose (T.faults site.old) (T.faults site.new) }
+    ensures source { result ≡ Status.SourceFault → Rose (S.faults source.old) (S.faults source.new) }
+    ensures begins { IsTrue T.tells → (more : List ℕ) × ((T.state site.new).said ≡ (T.state site.old).said ++ more) }
+    ensures taken { IsTrue S.tells → IsTaken (INPUT_LIMIT + 1) (S.left source.old) (S.left source.new) }
+    ensures ended { IsTrue S.tells → (result ≡ Status.Fine) ⊎ (result ≡ Status.Refused) → S.left source.new ≡ [] }
+    ensures source_later { S.faults source.old ≤ S.faults source.new }
+    ensures site_later { T.faults site.old ≤ T.faults site.new }
+{
+    loads_are_stores();
+    let Ok(mut reader) = LineReader::new(alloc) else {
+        return Status::Memory;
+    };
+    let mut refused = false;
+    'turns: loop {
+        match next_request(alloc, &mut reader, source) {
+            Ok(Some(asked)) => match reply(alloc, &mut warehouse, asked, site, steps) {
+                Ok(refuses) => refused = refused || refuses,
+                Err(status) => return status,
+            },
+            Ok(None) => return if refused {
+                Status::Refused
+            } else {
+                Status::Fine
+            },
+            Err(fault) => return break_off(site, fault),
+        }
+    }
+}

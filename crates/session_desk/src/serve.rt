@@ -1,0 +1,190 @@
+//! The word `serve`.
+ghost use Rattle.std.specs.Prelude.{◌≡◌, ◌≤◌, ◌<◌, ◌+◌, ◌++◌, ◌⊎◌, [], ℕ, List, Ok, None, true, false, IsTrue, IfOk, IfErr, MatchResult};
+ghost use Rattle.site_disk.specs.Causes.{Rose};
+ghost use Rattle.site_disk.specs.State.{Safe};
+ghost use Rattle.page_gate.specs.Promises.{Holds, HasFault};
+ghost use Rattle.page_layout.specs.Heads.{Values};
+ghost use Rattle.store_image.specs.Loading.{load_of, Fails};
+ghost use Rattle.store_image.specs.Stores.{IsSound, refusal_on};
+ghost use Rattle.session_desk.specs.Moments.{IsSaying};
+ghost use Rattle.session_desk.specs.Statuses.{is_fault};
+ghost use Rattle.session_desk.specs.Reading.{IsTaken};
+ghost use Rattle.session_desk.specs.Courses.{session};
+ghost use Rattle.session_desk.specs.Headline.{IsMoment, SaysAll, SaysWhole, KeepsAll, IsSettled, IsUntouched};
+ghost use Rattle.session_desk.specs.Talks.{IsServing, IsTalk, Concludes, IsCutOff, IsKept, IsEven};
+ghost use Rattle.session_desk.specs.Opened.{state_of, is_outside, fault_of as fault_said, refusal_course, Opened, IsLoaded, Loads};
+
+use crate::converse::converse;
+use crate::reading::INPUT_LIMIT;
+use crate::saying::say;
+use crate::status::Status;
+use int_metric::{Hamming, L1, Max};
+use page_gate::{OpenFault, Pages, is_blank, open_pages};
+use site_disk::{Site, Source};
+use std::alloc::Global;
+use std::sync::ledger::Ledger;
+use store_image::laws::{loads_are_stores, same_openings_are_alike};
+use store_image::{StoreFault, read_params};
+use vec_record::{MetricKind, Steps};
+use warehouse_core::Warehouse;
+
+/// A warehouse, by the metric of its store.
+#[derive(Drop)]
+pub enum AnyWarehouse {
+    L1(Warehouse<L1>),
+    Max(Warehouse<Max>),
+    Hamming(Warehouse<Hamming>),
+}
+
+/// Opens the pages of the store. The content is made the only image before it is judged, so that a refusal is
+/// said over it alone.
+fn open_store<T: Site>(alloc: Global, site: &mut T) -> Result<Pages, OpenFault>
+    ensures cause { HasFault (T.faults site.old) (T.faults site.new) result }
+    ensures told { IsTrue T.tells → Opened result (T.state site.old) (T.state site.new) }
+{
+    if is_blank(site).is_err() {
+        return Err(OpenFault::SiteFault);
+    }
+    open_pages(alloc, site)
+}
+
+/// The warehouse of pages.
+fn load<L: Ledger>(
+    alloc: Global,
+    pages: Pages,
+    steps: &mut Steps<L>,
+) -> Result<AnyWarehouse, StoreFault>
+    ensures loaded { MatchResult result (λ w. IsLoaded pages.list (state_of w)) (λ e. Fails e (load_of pages.list)) }
+{
+    match read_params(&pages)?.metric {
+        MetricKind::L1 => Ok(AnyWarehouse::L1(Warehouse::load(alloc, pages, steps)?)),
+        MetricKind::Max => Ok(AnyWarehouse::Max(Warehouse::load(alloc, pages, steps)?)),
+        MetricKind::Hamming => Ok(AnyWarehouse::Hamming(Warehouse::load(alloc, pages, steps)?)),
+    }
+}
+
+fn fault_of(fault: StoreFault) -> OpenFault
+    ensures { result ≡ fault_said fault }
+{
+    match fault {
+        StoreFault::Foreign => OpenFault::Foreign,
+        StoreFault::Damaged { page, offset } => OpenFault::Damaged { page, offset },
+        StoreFault::Memory => OpenFault::Memory,
+    }
+}
+
+/// Opens the store as a warehouse.
+fn begin<T: Site, L: Ledger>(
+    alloc: Global,
+    site: &mut T,
+    steps: &mut Steps<L>,
+) -> Result<AnyWarehouse, OpenFault>
+    ensures serving { IfOk result (λ w. IsServing (state_of w)) }
+    ensures cause { HasFault (T.faults site.old) (T.faults site.new) result }
+    ensures told { IsTrue T.tells → Loads result (T.state site.old) (T.state site.new) }
+{
+    loads_are_stores();
+    let pages = open_store(alloc, site)?;
+    match load(alloc, pages, steps) {
+        Ok(warehouse) => Ok(warehouse),
+        Err(fault) => Err(fault_of(fault)),
+    }
+}
+
+/// Says where the store is damaged.
+fn say_damage<T: Site>(alloc: Global, site: &mut T, page: u32, offset: u32) -> Status
+    ensures status { is_fault result ≡ false → result ≡ Status.Broken }
+    ensures said { IsTrue T.tells → is_fault result ≡ false → (T.state site.new).said ≡ (T.state site.old).said ++ (refusal_course (OpenFault.Damaged page offset)).ending }
+    ensures moments { IsTrue T.tells → Safe (T.state site.old) (T.state site.new) (IsSaying (T.state site.old) (refusal_course (OpenFault.Damaged page offset)).ending) }
+    ensures quiet { result ≡ Status.Memory → site.new ≡ site.old }
+    ensures answers { (result ≡ Status.Broken) ⊎ ((result ≡ Status.SiteFault) ⊎ (result ≡ Status.Memory)) }
+    ensures fault { result ≡ Status.SiteFault → Rose (T.faults site.old) (T.faults site.new) }
+    ensures later { T.faults site.old ≤ T.faults site.new }
+{
+    let Ok(line) = format!(in alloc; "damaged page {page} offset {offset}\n") else {
+        return Status::Memory;
+    };
+    say(site, Status::Broken, line.as_bytes())
+}
+
+/// Says why the store doesn't open.
+fn say_fault<T: Site>(alloc: Global, site: &mut T, fault: OpenFault) -> Status
+    ensures status { is_fault result ≡ false → (is_outside fault ≡ false) × (result ≡ (refusal_course fault).status) }
+    ensures said { IsTrue T.tells → is_fault result ≡ false → (T.state site.new).said ≡ (T.state site.old).said ++ (refusal_course fault).ending }
+    ensures moments { IsTrue T.tells → Safe (T.state site.old) (T.state site.new) (IsSaying (T.state site.old) (refusal_course fault).ending) }
+    ensures still { is_outside fault ≡ true → site.new ≡ site.old }
+    ensures quiet { result ≡ Status.Memory → site.new ≡ site.old }
+    ensures answers { (result ≡ Status.Blank) ⊎ ((result ≡ Status.Broken) ⊎ ((result ≡ Status.SiteFault) ⊎ (result ≡ Status.Memory))) }
+    ensures fault { result ≡ Status.SiteFault → (fault ≡ OpenFault.SiteFault) ⊎ Rose (T.faults site.old) (T.faults site.new) }
+    ensures later { T.faults site.old ≤ T.faults site.new }
+{
+    match fault {
+        OpenFault::Blank => say(site, Status::Blank, b"blank store\n"),
+        OpenFault::Foreign => say(site, Status::Broken, b"foreign store\n"),
+        OpenFault::Damaged { page, offset } => say_damage(alloc, site, page, offset),
+        OpenFault::SiteFault => Status::SiteFault,
+        OpenFault::Memory => Status::Memory,
+    }
+}
+
+/// Answers the requests of an input over a warehouse of any metric.
+fn converse_by_metric<S: Source, T: Site, L: Ledger>(
+    alloc: Global,
+    warehouse: AnyWarehouse,
+    source: &mut S,
+    site: &mut T,
+    steps: &mut Steps<L>,
+) -> Status
+    requires serving { IsServing (state_of warehouse) }
+    requires ready { IsTrue T.tells → Holds (state_of warehouse).pages (T.state site.old) }
+    ensures answers { IsTrue S.tells → IsTrue T.tells → is_fault result ≡ false → Concludes (state_of warehouse) (S.left source.old) result (T.state site.old) (T.state site.new) }
+    ensures whole { IsTrue S.tells → IsTrue T.tells → result ≡ Status.SourceFault → IsCutOff (state_of warehouse) (S.left source.old) (S.left source.new) (T.state site.old) (T.state site.new) }
+    ensures moments { IsTrue S.tells → IsTrue T.tells → Safe (T.state site.old) (T.state site.new) (IsTalk (state_of warehouse) (S.left source.old) (T.state site.old)) }
+    ensures end { IsTrue S.tells → IsTrue T.tells → is_fault result ≡ false → IsKept (state_of warehouse) (S.left source.old) (T.state site.new) }
+    ensures settled { IsTrue S.tells → IsTrue T.tells → (result ≡ Status.SourceFault) ⊎ (result ≡ Status.Memory) → IsEven (state_of warehouse) (S.left source.old) (T.state site.old) (T.state site.new) }
+    ensures status { (result ≡ Status.Fine) ⊎ (result ≡ Status.Refused) ⊎ (result ≡ Status.TooLong) ⊎ (is_fault result ≡ true) }
+    ensures site { result ≡ Status.SiteFault → Rose (T.faults site.old) (T.faults site.new) }
+    ensures source { result ≡ Status.SourceFault → Rose (S.faults source.old) (S.faults source.new) }
+    ensures begins { IsTrue T.tells → (more : List ℕ) × ((T.state site.new).said ≡ (T.state site.old).said ++ more) }
+    ensures taken { IsTrue S.tells → IsTaken (INPUT_LIMIT + 1) (S.left source.old) (S.left source.new) }
+    ensures ended { IsTrue S.tells → (result ≡ Status.Fine) ⊎ (result ≡ Status.Refused) → S.left source.new ≡ [] }
+    ensures source_later { S.faults source.old ≤ S.faults source.new }
+    ensures site_later { T.faults site.old ≤ T.faults site.new }
+{
+    match warehouse {
+        AnyWarehouse::L1(warehouse) => converse(alloc, warehouse, source, site, steps),
+        AnyWarehouse::Max(warehouse) => converse(alloc, warehouse, source, site, steps),
+        AnyWarehouse::Hamming(warehouse) => converse(alloc, warehouse, source, site, steps),
+    }
+}
+
+/// Opens the store and runs the session of the input.
+pub fn serve<S: Source, T: Site, L: Ledger>(
+    alloc: Global,
+    source: &mut S,
+    site: &mut T,
+    steps: &mut Steps<L>,
+) -> Status
+    ensures answers { IsTrue S.tells → IsTrue T.tells → is_fault result ≡ false → SaysAll (S.left source.old) result (T.state site.old) (T.state site.new) }
+    ensures whole { IsTrue S.tells → IsTrue T.tells → result ≡ Status.SourceFault → SaysWhole (S.left source.old) (S.left source.new) (T.state site.old) (T.state site.new) }
+    ensures complete { IsTrue S.tells → IsTrue T.tells → (Rose (S.faults source.old) (S.faults source.new) → ⊥) → (Rose (T.faults site.old) (T.faults site.new) → ⊥) → (result ≡ (session (T.state site.old).content (S.left source.old)).status) ⊎ (result ≡ Status.Memory) }
+    ensures crash { IsTrue S.tells → IsTrue T.tells → Safe (T.state site.old) (T.state site.new) (IsMoment (S.left source.old) (T.state site.old)) }
+    ensures end { IsTrue S.tells → IsTrue T.tells → (result ≡ Status.Fine) ⊎ ((result ≡ Status.Refused) ⊎ (result ≡ Status.TooLong)) → KeepsAll (S.left source.old) (T.state site.old) (T.state site.new) }
+    ensures settled { IsTrue S.tells → IsTrue T.tells → IsSound (T.state site.old).content → (result ≡ Status.SourceFault) ⊎ (result ≡ Status.Memory) → IsSettled (S.left source.old) (T.state site.old) (T.state site.new) }
+    ensures untouched { IsTrue T.tells → (refusal_on (T.state site.old).content ≡ None → ⊥) → Safe (T.state site.old) (T.state site.new) (IsUntouched (T.state site.old)) }
+    ensures unbegun { IsTrue T.tells → (result ≡ Status.Blank) ⊎ (result ≡ Status.Broken) → Safe (T.state site.old) (T.state site.new) (IsUntouched (T.state site.old)) }
+    ensures known { result ≡ Status.Words → ⊥ }
+    ensures site { result ≡ Status.SiteFault → Rose (T.faults site.old) (T.faults site.new) }
+    ensures source { result ≡ Status.SourceFault → Rose (S.faults source.old) (S.faults source.new) }
+    ensures begins { IsTrue T.tells → (more : List ℕ) × ((T.state site.new).said ≡ (T.state site.old).said ++ more) }
+    ensures taken { IsTrue S.tells → IsTaken (INPUT_LIMIT + 1) (S.left source.old) (S.left source.new) }
+    ensures ended { IsTrue S.tells → (result ≡ Status.Fine) ⊎ (result ≡ Status.Refused) → S.left source.new ≡ [] }
+    ensures source_later { S.faults source.old ≤ S.faults source.new }
+    ensures site_later { T.faults site.old ≤ T.faults site.new }
+{
+    same_openings_are_alike();
+    match begin(alloc, site, steps) {
+        Ok(warehouse) => converse_by_metric(alloc, warehouse, source, site, steps),
+        Err(fault) => say_fault(alloc, site, fault),
+    }
+}
