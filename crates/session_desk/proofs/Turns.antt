@@ -374,10 +374,6 @@ holds-on pages b c holds alone = record {
   shut = ap is_open alone.content ∙ holds.shut;
 }
 
-pub either-status : (refused : Bool) (result : Status) → (refused ≡ true) × (result ≡ status.Refused) ⊎ (refused ≡ false) × (result ≡ status.Fine) → result ≡ cond refused status.Refused status.Fine
-either-status refused result (inl yes_it_is) = yes_it_is.1 ∙ ap (λ (b : Bool). cond b status.Refused status.Fine) (sym yes_it_is.0)
-either-status refused result (inr no_it_is_not) = no_it_is_not.1 ∙ ap (λ (b : Bool). cond b status.Refused status.Fine) (sym no_it_is_not.0)
-
 pub too-long-only : (result : Status) → (result ≡ status.SourceFault) ⊎ ((result ≡ status.TooLong) ⊎ ((result ≡ status.Memory) ⊎ (result ≡ status.SiteFault))) → is_fault result ≡ false → result ≡ status.TooLong
 too-long-only result (inl source) fine = let f = ap is_fault source in absurd (cc (f, fine))
 too-long-only result (inr (inl too_long)) fine = too_long

@@ -1,5 +1,5 @@
 //! The session over a warehouse that was loaded.
-ghost use Rattle.std.specs.Prelude.{◌≡◌, ◌≤◌, ◌+◌, ◌++◌, ◌⊎◌, ℕ, List, [], false, true, Ok, Err, IsTrue, IfOk, IfErr, OnOk, length, codes};
+ghost use Rattle.std.specs.Prelude.{◌≡◌, ◌≤◌, ◌+◌, ◌++◌, ◌⊎◌, ℕ, List, [], false, true, Ok, Err, IsTrue, IfOk, IfErr, OnOk, length, codes, if◌then◌else◌};
 ghost use Rattle.site_disk.specs.Causes.{Rose};
 ghost use Rattle.site_disk.specs.State.{Safe};
 ghost use Rattle.page_gate.specs.Promises.{Holds};
@@ -57,7 +57,18 @@ fn reply<M: Metric, T: Site, L: Ledger>(
     }
 }
 
-/// Ends a session whose input gives no further request.
+/// The status of a session whose input came to its end.
+fn end_of(refused: bool) -> Status
+    ensures { result ≡ (if refused then Status.Refused else Status.Fine) }
+{
+    if refused {
+        Status::Refused
+    } else {
+        Status::Fine
+    }
+}
+
+/// Ends a session whose input gives no further request before its end.
 fn break_off<T: Site>(site: &mut T, fault: ReadFault) -> Status
     ensures status { (result ≡ Status.SourceFault) ⊎ (result ≡ Status.TooLong) ⊎ (result ≡ Status.Memory) ⊎ (result ≡ Status.SiteFault) }
     ensures source { result ≡ Status.SourceFault → fault ≡ ReadFault.Source }
@@ -113,11 +124,7 @@ pub fn converse<M: Metric, S: Source, T: Site, L: Ledger>(
                 Ok(refuses) => refused = refused || refuses,
                 Err(status) => return status,
             },
-            Ok(None) => return if refused {
-                Status::Refused
-            } else {
-                Status::Fine
-            },
+            Ok(None) => return end_of(refused),
             Err(fault) => return break_off(site, fault),
         }
     }

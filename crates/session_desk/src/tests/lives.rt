@@ -10,7 +10,7 @@ use vec_record::{Bytes, Numbers};
 type Turn = (&'static str, &'static str, Status, &'static str);
 
 /// Each life begins with a blank file.
-const LIVES: [&[Turn]; 13] = [
+const LIVES: [&[Turn]; 14] = [
     // A store with nothing in it.
     &[
         ("init l1 1 1 2 100", "", Status::Fine, "born\n"),
@@ -182,6 +182,33 @@ const LIVES: [&[Turn]; 13] = [
             "1 noise\nrecords 1 cores 0 borders 0 noise 1 clusters 0\nrefused 21\nrefused 21\n\
             refused 21\n\
             ok 2 +1 -0 noise 0 created 1 absorbed 0 merged 0 removed 0 reduced 0 split 0\n",
+        ),
+    ],
+    // 31 equal vectors, as many as overfill one node of a tree, come and go.
+    &[
+        ("init l1 1 0 1 100", "", Status::Fine, "born\n"),
+        (
+            "serve",
+            "batch\n\
+            +,1,5\n+,2,5\n+,3,5\n+,4,5\n+,5,5\n+,6,5\n+,7,5\n+,8,5\n\
+            +,9,5\n+,10,5\n+,11,5\n+,12,5\n+,13,5\n+,14,5\n+,15,5\n+,16,5\n\
+            +,17,5\n+,18,5\n+,19,5\n+,20,5\n+,21,5\n+,22,5\n+,23,5\n+,24,5\n\
+            +,25,5\n+,26,5\n+,27,5\n+,28,5\n+,29,5\n+,30,5\n+,31,5\n\
+            end\n",
+            Status::Fine,
+            "ok 1 +31 -0 noise 0 created 1 absorbed 30 merged 0 removed 0 reduced 0 split 0\n",
+        ),
+        (
+            "serve",
+            "batch\n\
+            -,1\n-,2\n-,3\n-,4\n-,5\n-,6\n-,7\n-,8\n\
+            -,9\n-,10\n-,11\n-,12\n-,13\n-,14\n-,15\n-,16\n\
+            -,17\n-,18\n-,19\n-,20\n-,21\n-,22\n-,23\n-,24\n\
+            -,25\n-,26\n-,27\n-,28\n-,29\n-,30\n-,31\n\
+            end\nreport\n",
+            Status::Fine,
+            "ok 2 +0 -31 noise 0 created 0 absorbed 0 merged 0 removed 1 reduced 30 split 0\n\
+            records 0 cores 0 borders 0 noise 0 clusters 0\n",
         ),
     ],
     // Lines may end with CRLF.

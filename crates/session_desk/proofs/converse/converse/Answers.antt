@@ -7,9 +7,9 @@ use Rattle.session_desk.specs.declared.reading.ReadFault.TheVariants as read_fau
 use Rattle.session_desk.specs.Lines.{Reading}
 use Rattle.session_desk.specs.Talks.{IsGoing, IsTalk, IsCutOff, IsEven}
 use Rattle.session_desk.proofs.Replies.{rest-store}
-use Rattle.session_desk.proofs.Turns.{begins-going, goes-on, turn-failed, ends-fine, ends-too-long, too-long-moments, all-kept, even-out, cut-off, taken, some-asked, none-asked, too-much, broken-off, is-too-much, more-on, holds-on, either-status, too-long-only}
+use Rattle.session_desk.proofs.Turns.{begins-going, goes-on, turn-failed, ends-fine, ends-too-long, too-long-moments, all-kept, even-out, cut-off, taken, some-asked, none-asked, too-much, broken-off, is-too-much, more-on, holds-on, too-long-only}
 use Rattle.session_desk.proofs.converse.converse.Goals as goal
-use Rattle.session_desk.proofs.converse.converse.Goals.{then-refused, else-refused, then-refused-2, else-refused-2}
+use Rattle.session_desk.proofs.converse.converse.Goals.{then-refused, else-refused}
 
 pub returns-in_default-clause-moments : goal.returns-in_default-clause-moments
 returns-in_default-clause-moments g c = λ s t.
@@ -109,11 +109,7 @@ returns-in-Ok-None-clause-answers g c = λ s t fine.
     let left' = g.S.Source.left c.next_request.new.source in
     let going = c.turns.invariant.going s in
     let none = none-asked c.in-Ok-None.field-0 c.turns.reader c.next_request.new.reader left left' c.in-Ok-None.field-0-is (c.in-Ok-None.ensures.told s going.read.same_source) in
-    let is = either-status c.turns.refused c.if-refused-2.result (elim c.if-refused-2.branch [
-      | then-refused-2 w' ↦ inl (w'.if-refused-2.true, w'.result-is)
-      | else-refused-2 w' ↦ inr (w'.if-refused-2.false, w'.result-is)
-    ]) in
-    ends-fine g.T.Site.tells c.args.warehouse c.turns.warehouse (g.S.Source.left c.args.source.now) (g.T.Site.state c.args.site.now) (g.T.Site.state c.turns.site) c.turns.refused c.turns.reader left c.if-refused-2.result t going none.0 none.1 is
+    ends-fine g.T.Site.tells c.args.warehouse c.turns.warehouse (g.S.Source.left c.args.source.now) (g.T.Site.state c.args.site.now) (g.T.Site.state c.turns.site) c.turns.refused c.turns.reader left c.end_of.result t going none.0 none.1 c.end_of.ensures
 
 pub returns-in-Ok-None-clause-end : goal.returns-in-Ok-None-clause-end
 returns-in-Ok-None-clause-end g c = λ s t fine.
