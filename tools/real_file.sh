@@ -58,6 +58,22 @@ due 9 'store exists\n' '' init l1 1 1 2 100
 due 0 '1 core 1\n2 core 1\n3 core 1\n4 core 1\n5 core 1\nrecords 5 cores 5 borders 0 noise 0 clusters 1\n' \
     'report\n' serve
 
+# The examples.
+mkdir "$work/examples" && cd "$work/examples" || exit 1
+due 0 "$(cat "$top/examples/rooms.txt")\n" "$(cat "$top/examples/rooms.csv")" once l1 1 1 3
+due 0 'born\n' '' init l1 1 1 3 100
+due 0 "$(cat "$top/examples/rooms_day.txt")\n" "$(cat "$top/examples/rooms_day.session")" serve
+
+# The longest input, over a store, and one of a byte more.
+mkdir "$work/long" && cd "$work/long" || exit 1
+due 0 'born\n' '' init l1 1 1 2 100
+head -c 67108864 /dev/zero | tr '\0' '\n' | "$program" serve >"$work/said"
+got=$?
+[ "$got" = 0 ] && [ ! -s "$work/said" ] || fail "the longest input gives $got and says: $(cat "$work/said")"
+head -c 67108865 /dev/zero | tr '\0' '\n' | "$program" serve >"$work/said"
+got=$?
+[ "$got" = 8 ] && [ "$(cat "$work/said")" = 'session too long' ] || fail "an input of a byte more gives $got and says: $(cat "$work/said")"
+
 # The bytes of a new store, and of one with one record: all numbers have their low byte first.
 mkdir "$work/bytes" && cd "$work/bytes" || exit 1
 due 0 'born\n' '' init l1 1 1 2 100
