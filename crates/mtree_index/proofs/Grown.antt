@@ -40,7 +40,7 @@ module _ (dist : List ℕ → List ℕ → ℕ) (w greatest : ℕ) where
   root_vectors laws h None r = tt
   root_vectors laws h (Some n) r = vectors_below dist w greatest laws h None n r.node
 
-  root_distinct : (h : ℕ) (root : Option Node) → IsRoot dist w greatest h root → AreDistinct (leaves_of h root)
+  pub root_distinct : (h : ℕ) (root : Option Node) → IsRoot dist w greatest h root → AreDistinct (leaves_of h root)
   root_distinct h None r = λ q. omega arith
   root_distinct h (Some n) r = r.distinct
 

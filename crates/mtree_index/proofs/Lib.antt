@@ -1,14 +1,17 @@
 pub mod Chosen
 pub mod Distinct
+pub mod Exact
 pub mod Grown
 pub mod Halves
 pub mod Height
 pub mod Kept
 pub mod Matrix
+pub mod Near
 pub mod OnSide
 pub mod Opened
 pub mod Parted
 pub mod Places
+pub mod Rising
 pub mod Sides
 pub mod Totals
 pub mod Widths

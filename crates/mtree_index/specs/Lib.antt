@@ -3,3 +3,4 @@ pub mod Split
 pub mod Insertion
 pub mod Plain
 pub mod Tree
+pub mod Found

@@ -16,9 +16,13 @@ abbrev pub leaves_of : ℕ → Option Node → List LeafEntry
 leaves_of h None = []
 leaves_of h (Some n) = leaves h n
 
+-- the vectors below a root, by their numbers
+abbrev pub records_of : ℕ → Option Node → Rows
+records_of h root = finite.from_entries (map record_of (leaves_of h root))
+
 -- the vectors of a tree, by their numbers
 abbrev pub contents : PlainTree → Rows
-contents t = finite.from_entries (map record_of (leaves_of t.height t.root))
+contents t = records_of t.height t.root
 
 abbrev pub root_cost : (List ℕ → List ℕ → ℕ) → ℕ → Option Node → List ℕ → ℕ → ℕ
 root_cost dist h None centre radius = 0

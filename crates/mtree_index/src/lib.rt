@@ -11,6 +11,7 @@ mod entry;
 #[cfg(test)]
 mod expected;
 mod insertion;
+mod query;
 mod settle;
 mod split;
 #[cfg(test)]

@@ -1,10 +1,12 @@
-ghost use Rattle.std.specs.Prelude.{◌≡◌, ℕ, ◌+◌, ◌<◌, ◌≤◌, ◌↔◌, length, None, Some, IfOk, IfSome, [], ◌∷◌};
+ghost use Rattle.std.specs.Prelude.{◌≡◌, ℕ, ◌+◌, ◌<◌, ◌≤◌, ◌↔◌, length, None, Some, IfOk, IfSome, OnOk, [], ◌∷◌};
 ghost use Rattle.std.specs.Option.{option_copied};
-ghost use Rattle.vec_record.specs.Vectors.{IsWidth};
+ghost use Rattle.vec_record.specs.Vectors.{IsWidth, AreBytes};
 ghost use Rattle.mtree_node.specs.Tree.{IsTree};
-ghost use Rattle.mtree_index.specs.Tree.{contents, query_cost, IsRoot, IsGrown, grown_from};
+ghost use Rattle.mtree_index.specs.Found.{numbers_within};
+ghost use Rattle.mtree_index.specs.Tree.{contents, leaves_of, query_cost, root_cost, IsRoot, IsGrown, grown_from};
 
 use crate::insertion::insert_below;
+use crate::query::search;
 use crate::settle::Pair;
 use items::Items;
 use mtree_node::{LeafEntry, Node};
@@ -12,7 +14,7 @@ use plain_dbscan::RangeIndex;
 use std::alloc::{AllocError, Global};
 use std::marker::{Model, PhantomData};
 use std::sync::ledger::Ledger;
-use vec_record::{Metric, Number, Steps, Vector};
+use vec_record::{Metric, Number, Numbers, Steps, Vector};
 
 /// An M-tree: vectors of one width under distinct numbers, searched by distance.
 ///
@@ -84,6 +86,21 @@ impl<M: Metric> RangeIndex<M> for MTree<M> {
 
     ghost grows = { λ before after n v g. (g.width, g.contents) };
 
+    fn range<L: Ledger>(
+        &self,
+        centre: &Vector,
+        eps: u32,
+        out: &mut Numbers,
+        steps: &mut Steps<L>,
+    ) -> Result<(), AllocError> {
+        let _ = centre.as_slice();
+        let root = self.root.as_ref();
+        let found = numbers_found::<M, L>(self.alloc, self.height, root, centre, eps, steps)?;
+        let mut numbers = found;
+        numbers.sort_unstable();
+        put_all(self.alloc, &numbers, out)
+    }
+
     fn insert<L: Ledger>(
         &mut self,
         number: Number,
@@ -99,6 +116,41 @@ impl<M: Metric> RangeIndex<M> for MTree<M> {
         self.root = Some(root);
         Ok(())
     }
+}
+
+// The numbers of a tree within the radius of the centre, in the order of the leaves.
+fn numbers_found<M: Metric, L: Ledger>(
+    alloc: Global,
+    height: u32,
+    root: Option<&Node>,
+    centre: &Vector,
+    radius: u32,
+    steps: &mut Steps<L>,
+) -> Result<Vec<Number>, AllocError>
+    requires width { IsWidth (length centre.now) }
+    requires centre { AreBytes centre.now }
+    requires root { IsRoot M.dist (length centre.now) (M.most (length centre.now)) height (option_copied root) }
+    ensures found { IfOk result (λ f. f.items ≡ numbers_within M.dist centre.now radius (leaves_of height (option_copied root.entry))) }
+    ensures counted { OnOk result (steps.new ≡ steps.old + root_cost M.dist height (option_copied root.entry) centre.now radius) }
+    ensures at_most { steps.new ≤ steps.old + root_cost M.dist height (option_copied root.entry) centre.now radius }
+{
+    let mut found = Vec::new(alloc);
+    let Some(root) = root else {
+        return Ok(found);
+    };
+    search::<M, L>(root, height, None, centre, radius, &mut found, steps)?;
+    Ok(found)
+}
+
+// Puts the numbers in place of those that a list held.
+fn put_all(alloc: Global, numbers: &[Number], out: &mut Numbers) -> Result<(), AllocError>
+    ensures { OnOk result (out.new ≡ numbers.now) }
+{
+    *out = Numbers::new(alloc);
+    for number in numbers {
+        out.push(*number)?;
+    }
+    Ok(())
 }
 
 // The root after an insertion, and its height.

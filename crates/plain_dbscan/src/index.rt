@@ -2,11 +2,11 @@ ghost use Rattle.std.specs.Prelude.{◌≡◌, ℕ, ◌+◌, ◌<◌, ◌≤◌,
 ghost use Rattle.std.specs.FinMap as map;
 ghost use Rattle.vec_record.specs.Vectors.{IsWidth};
 ghost use Rattle.vec_record.specs.Held.{Rows};
-ghost use Rattle.plain_dbscan.specs.Index.{HaveWidth};
+ghost use Rattle.plain_dbscan.specs.Index.{HaveWidth, near};
 
 use std::alloc::AllocError;
 use std::sync::ledger::Ledger;
-use vec_record::{Metric, Number, Steps, Vector};
+use vec_record::{Metric, Number, Numbers, Steps, Vector};
 
 /// Vectors of one width under numbers, searched by distance.
 ///
@@ -23,6 +23,23 @@ pub trait RangeIndex<M: Metric> {
 
     /// An index before and after an insertion of a number and a vector.
     ghost grown: { Self → Self → ℕ → List ℕ → Type 0 };
+
+    /// Gives in `out`, in place of what it held, exactly the numbers within `eps` of the centre, rising.
+    ///
+    /// The centre has the index's width. After an `Err` `out` holds no stated numbers.
+    fn range<L: Ledger>(
+        &self,
+        centre: &Vector,
+        eps: u32,
+        out: &mut Numbers,
+        steps: &mut Steps<L>,
+    ) -> Result<(), AllocError>
+        requires width { length centre.now ≡ width self.now }
+        ensures found { OnOk result (out.new ≡ near M.dist (contents self.now) centre.now eps) }
+        ensures counted { OnOk result (steps.new ≡ steps.old + cost self.now centre.now eps) }
+        ensures at_most { steps.new ≤ steps.old + cost self.now centre.now eps }
+        ensures lawful_width { IsWidth (width self.now) }
+        ensures vectors { HaveWidth (width self.now) (contents self.now) };
 
     /// Adds a pair. It needs fewer than 200,000 pairs, an absent number and a vector of the width.
     ///
