@@ -3,7 +3,9 @@
 
 Vectors of two coordinates are inserted one by one, under the sum of the absolute differences. It
 prints the tables in the tests of `mtree_index`, in their order: the tree of 400 vectors, then the
-inner nodes alone of the tree of 700.
+inner nodes alone of the tree of 700. Then the 400 are removed in a scrambled order, the k-th being the
+number 167 k modulo 401: after each 40 removals and after 380 it prints the height, the length of the
+tree's list and a digest of that list.
 
 A tree is the list of its nodes from the root on, each node before its children. A leaf is 0, its tag,
 how many entries it has, and each entry's number and parent distance. An inner node is 1, its tag, how
@@ -12,6 +14,7 @@ many entries it has, and each entry's object, radius and parent distance.
 
 GREATEST = 510
 CAPACITY = 30
+FEWEST = 7
 
 
 def vectors(count):
@@ -54,9 +57,8 @@ def balanced(entries, pair):
     return side_of, radii
 
 
-def split(node):
-    """The two entries into which a node of 31 entries is split."""
-    entries = node.entries
+def split(leaf, tags, entries):
+    """The two entries into which 31 to 36 entries are split, with the tags of the two nodes."""
     pairs = [(i, j) for i in range(len(entries)) for j in range(i + 1, len(entries))]
     partings = {pair: balanced(entries, pair) for pair in pairs}
     best = min(pairs, key=lambda pair: (max(partings[pair][1]), pair))
@@ -67,7 +69,7 @@ def split(node):
         centre = entries[best[s]].vector
         for e in members:
             e.parent = distance(centre, e.vector)
-        child = Node(node.leaf, node.tag if s == 0 else 0, members)
+        child = Node(leaf, tags[s], members)
         halves.append(Entry(centre, child=child, radius=radii[s]))
     return halves
 
@@ -93,8 +95,52 @@ def insert(node, above, number, vector):
             for half in halves:
                 half.parent = 0 if above is None else distance(above, half.vector)
             node.entries[place : place + 1] = halves
-    return split(node) if len(node.entries) > CAPACITY else None
+    return split(node.leaf, (node.tag, 0), node.entries) if len(node.entries) > CAPACITY else None
 
+
+def joined(left, right, above):
+    """The entries that stand for two neighbours, of which one has too few entries."""
+    node, entries = left.child, left.child.entries + right.child.entries
+    if len(entries) > CAPACITY:
+        halves = split(node.leaf, (node.tag, right.child.tag), entries)
+        for half in halves:
+            half.parent = 0 if above is None else distance(above, half.vector)
+        return halves
+    for e in entries:
+        e.parent = distance(left.vector, e.vector)
+    one = Entry(left.vector, child=Node(node.leaf, node.tag, entries), radius=min(GREATEST, max(e.parent + e.radius for e in entries)))
+    one.parent = left.parent
+    return [one]
+
+
+def remove(node, above, number, vector):
+    """Removes the pair below a node whose routing object is `above`, and tells whether it was found."""
+    for place, e in enumerate(node.entries):
+        if above is not None and abs(distance(vector, above) - e.parent) > e.radius:
+            continue
+        reach = distance(vector, e.vector)
+        if node.leaf:
+            if reach == 0 and e.number == number:
+                del node.entries[place]
+                return True
+        elif reach <= e.radius and remove(e.child, e.vector, number, vector):
+            if len(e.child.entries) < FEWEST:
+                first = max(place - 1, 0)
+                node.entries[first : first + 2] = joined(*node.entries[first : first + 2], above)
+            return True
+    return False
+
+
+def shrunk(root, number, vector):
+    """The root after a removal, none for the empty tree."""
+    assert remove(root, None, number, vector)
+    if not root.entries:
+        return None
+    if not root.leaf and len(root.entries) == 1:
+        root = root.entries[0].child
+        for e in root.entries:
+            e.parent = 0
+    return root
 
 def grown(pairs):
     """The root after these numbers and vectors were inserted into the empty tree."""
@@ -106,21 +152,40 @@ def grown(pairs):
     return root
 
 
-def show(node, leaves):
+def rows(node, leaves):
+    """The nodes from the root on, each before its children."""
     if node.leaf and not leaves:
-        return
+        return []
     row = [0 if node.leaf else 1, node.tag, len(node.entries)]
     for e in node.entries:
         row += [e.number, e.parent] if node.leaf else [*e.vector, e.radius, e.parent]
-    print(*row, sep=", ")
-    if not node.leaf:
-        for e in node.entries:
-            show(e.child, leaves)
+    below = [] if node.leaf else [r for e in node.entries for r in rows(e.child, leaves)]
+    return [row] + below
+
+
+def height(node):
+    return 1 if node.leaf else 1 + height(node.entries[0].child)
+
+
+def digest(numbers):
+    value = 0
+    for n in numbers:
+        value = (31 * value + n) % 2**32
+    return value
 
 
 def main():
     for count, leaves in (400, True), (700, False):
-        show(grown([(k + 1, v) for k, v in enumerate(vectors(count))]), leaves)
+        for row in rows(grown([(k + 1, v) for k, v in enumerate(vectors(count))]), leaves):
+            print(*row, sep=", ")
+    drawn = vectors(400)
+    root = grown([(k + 1, v) for k, v in enumerate(drawn)])
+    for k in range(1, 381):
+        number = 167 * k % 401
+        root = shrunk(root, number, drawn[number - 1])
+        if k % 40 == 0 or k == 380:
+            numbers = [n for row in rows(root, True) for n in row]
+            print(height(root), len(numbers), digest(numbers), sep=", ")
 
 
 if __name__ == "__main__":

@@ -21,13 +21,13 @@ one v = 1
 abbrev pub at : ℕ → List LeafEntry → Option (List ℕ)
 at q es = find nat_cmp q (map record_of es)
 
-ties : (a b : ℕ) → ((eq_by_cmp nat_cmp a b ≡ true) × (a ≡ b)) ⊎ ((eq_by_cmp nat_cmp a b ≡ false) × (a ≡ b → ⊥))
+pub ties : (a b : ℕ) → ((eq_by_cmp nat_cmp a b ≡ true) × (a ≡ b)) ⊎ ((eq_by_cmp nat_cmp a b ≡ false) × (a ≡ b → ⊥))
 ties a b = rw (unsigned_tied a b) (eqb_tells a b)
 
-here : (q : ℕ) (g : List ℕ → ℕ) (n : ℕ) (v : List ℕ) → q ≡ n → under q g n v ≡ g v
+pub here : (q : ℕ) (g : List ℕ → ℕ) (n : ℕ) (v : List ℕ) → q ≡ n → under q g n v ≡ g v
 here q g n v e = elim (eqb_tells n q) [ inl t ↦ rw t.0 refl | inr f ↦ absurd (f.1 (sym e)) ]
 
-other : (q : ℕ) (g : List ℕ → ℕ) (n : ℕ) (v : List ℕ) → (q ≡ n → ⊥) → under q g n v ≡ 0
+pub other : (q : ℕ) (g : List ℕ → ℕ) (n : ℕ) (v : List ℕ) → (q ≡ n → ⊥) → under q g n v ≡ 0
 other q g n v d = elim (eqb_tells n q) [ inl t ↦ absurd (d (sym t.1)) | inr f ↦ rw f.0 refl ]
 
 -- nothing stands under a number

@@ -1,5 +1,5 @@
 -- The rule of a range query passes over no vector that is near.
-use Rattle.std.proofs.Common.{◌≡◌, ℕ, zero, suc, ◌+◌, ◌<◌, ◌≤◌, true, false, cond, List, [], ◌∷◌, ◌++◌, Option, Some, None, refl, sym, ap, ◌∙◌, arith, inl, inr, append_assoc}
+use Rattle.std.proofs.Common.{◌≡◌, ℕ, zero, suc, ◌+◌, ◌<◌, ◌≤◌, true, false, cond, List, [], ◌∷◌, ◌++◌, Option, Some, None, refl, sym, arith, inl, inr, append_assoc}
 use Rattle.std.specs.Prelude.{nat_le}
 use Rattle.std.specs.List.{AllByRecursion, flat_map}
 use Rattle.std.proofs.lemmas.Bool.Decides.{leb_tells}
@@ -10,8 +10,8 @@ use Rattle.mtree_node.specs.declared.node.LeafEntry.{LeafEntry}
 use Rattle.mtree_node.specs.declared.node.InnerEntry.{InnerEntry, out-InnerEntry}
 use Rattle.mtree_node.specs.declared.node.Node.{Node, out-Node}
 use Rattle.mtree_node.specs.declared.node.Node.TheOpen.{Node-F}
-use Rattle.mtree_node.specs.Layer.{Layer, EntryLayer}
-use Rattle.mtree_node.specs.Tree.{leaves, leaves_in, parent_distance, IsLeafEntry, IsInnerEntry, IsNode, IsNodeIn}
+use Rattle.mtree_node.specs.Layer.{Layer}
+use Rattle.mtree_node.specs.Tree.{leaves, leaves_in, parent_distance, IsLeafEntry, IsNode, IsNodeIn}
 use Rattle.mtree_node.specs.Cost.{is_skipped}
 use Rattle.mtree_index.specs.Found.{IsShaped, IsShapedIn, IsEntryOver, number_within, numbers_within, leaf_found, entry_found, found, found_in}
 use Rattle.mtree_index.proofs.Kept.{IsEntry, vectors_below}

@@ -1,11 +1,12 @@
 -- An insertion keeps a tree lawful, and adds its pair to what the tree holds.
-use Rattle.std.proofs.Common.{◌≡◌, ℕ, zero, suc, ◌+◌, ◌-◌, ◌<◌, ◌≤◌, ◌^◌, true, false, List, [], ◌∷◌, ◌++◌, length, map, Option, Some, None, refl, sym, ap, subst, ◌∙◌, arith, inl, inr, add-one}
+use Rattle.std.proofs.Common.{◌≡◌, ℕ, zero, suc, ◌+◌, ◌-◌, ◌<◌, ◌≤◌, ◌^◌, true, false, List, [], ◌∷◌, ◌++◌, length, map, Option, Some, None, refl, sym, ap, subst, ◌∙◌, arith, inl, inr, add-one, Bool, cond}
 use Rattle.std.specs.List.{AllByRecursion}
 use Rattle.std.specs.Ordering.{nat_cmp, eq_by_cmp}
 use Rattle.std.specs.Cmp.{nat_cmp_total, unsigned_tied}
 use Rattle.std.proofs.lemmas.Bool.Decides.{eqb_tells}
-use Rattle.std.specs.FinMap.{from_entries, insert, get, len, get-from_entries}
+use Rattle.std.specs.FinMap.{from_entries, insert, get, len, get-from_entries, len-insert, contains_key}
 use Rattle.vec_record.specs.Vectors.{IsVector, IsWidth, AreBytes}
+use Rattle.vec_record.specs.Held.{Rows}
 use Rattle.vec_record.specs.Distance.{greatest_of}
 use Rattle.vec_record.specs.declared.kind.MetricKind.{MetricKind}
 use Rattle.vec_record.specs.declared.kind.MetricKind.TheVariants.{L1, Max, Hamming}
@@ -104,17 +105,28 @@ width_stays : (dist : List ℕ → List ℕ → ℕ) (greatest number : ℕ) (v 
 width_stays dist greatest number v w h None = refl
 width_stays dist greatest number v w h (Some n) = rooted_width w h (inserted dist greatest number v h None n)
 
+with_one : (b : Bool) (n : ℕ) → cond b n (n + 1) ≤ n + 1
+with_one true n = omega arith
+with_one false n = omega arith
+
+-- one pair more is held, at most
+one_more : (new : List LeafEntry) (old : Rows) (number : ℕ) (v : List ℕ) → AreDistinct new → from_entries {R = nat_cmp} (map record_of new) ≡ insert old number v → len old < 200000 → length new ≤ 200000
+one_more new old number v distinct is room =
+    omega (arith, len_is new distinct, ap len is, len-insert nat_cmp_total old number v, with_one (contains_key old number) (len old), room)
+
 -- the tree after an insertion, whose type keeps it as before
-pub insert_keeps : (dist : List ℕ → List ℕ → ℕ) (most : ℕ → ℕ) (t : PlainTree) → IsLawful dist most t → Lawful dist t.width (most t.width) → (number : ℕ) (v : List ℕ) → IsVector t.width v → get (contents t) number ≡ None
+pub insert_keeps : (dist : List ℕ → List ℕ → ℕ) (most : ℕ → ℕ) (t : PlainTree) → IsLawful dist most t → Lawful dist t.width (most t.width) → (number : ℕ) (v : List ℕ) → IsVector t.width v → get (contents t) number ≡ None → len (contents t) < 200000
     → (after : PlainTree) → after ≡ after_insertion dist most number v t → IsLawful dist most after × IsGrown dist most t after number v
-insert_keeps dist most t lawful laws number v iv absent after is =
+insert_keeps dist most t lawful laws number v iv absent room after is =
     let new = after_insertion dist most number v t in
     let width : new.width ≡ t.width = width_stays dist (most t.width) number v t.width t.height t.root in
     let made = grown_root dist t.width (most t.width) laws number v iv t.height t.root lawful.root absent in
     let whole : IsLawful dist most new = record {
       width = subst IsWidth (sym width) lawful.width;
       root = subst (λ (w : ℕ). IsRoot dist w (most w) new.height new.root) (sym width) made.0;
-    } in (
+      few = one_more (leaves_of new.height new.root) (contents t) number v (root_distinct dist t.width (most t.width) new.height new.root made.0) made.1 room;
+    } in
+    (
       subst (IsLawful dist most) (sym is) whole,
       record { tree = is; width = ap (λ (x : PlainTree). x.width) is ∙ width; contents = ap contents is ∙ made.1 },
     )
@@ -124,13 +136,13 @@ tree_of w h n = record { width = w; height = h; root = Some n }
 
 -- the same for a call that took the root out of its tree
 pub call_keeps : (dist : List ℕ → List ℕ → ℕ) (most : ℕ → ℕ) (t now : PlainTree) → t ≡ now → IsLawful dist most t → (number : ℕ) (v : List ℕ) → length v ≡ now.width → AreBytes v
-    → (IsVector t.width v → Lawful dist t.width (most t.width)) → get (contents now) number ≡ None → (root : Option Node) → root ≡ t.root
+    → (IsVector t.width v → Lawful dist t.width (most t.width)) → get (contents now) number ≡ None → len (contents now) < 200000 → (root : Option Node) → root ≡ t.root
     → (h : ℕ) (n : Node) → tree_of (length v) h n ≡ grown_from dist (most (length v)) number v (length v) t.height root
     → IsLawful dist most (tree_of t.width h n) × IsGrown dist most now (tree_of t.width h n) number v
-call_keeps dist most t now same lawful number v width bytes laws absent root taken h n made =
+call_keeps dist most t now same lawful number v width bytes laws absent room root taken h n made =
     let wide : length v ≡ t.width = width ∙ sym (ap (λ (x : PlainTree). x.width) same) in
     let iv : IsVector t.width v = record { len = wide; bytes = bytes } in
     let after : tree_of (length v) h n ≡ grown_from dist (most (length v)) number v (length v) t.height t.root = made ∙ ap (grown_from dist (most (length v)) number v (length v) t.height) taken in
     let is = subst (λ (w : ℕ). tree_of w h n ≡ grown_from dist (most w) number v w t.height t.root) wide after in
-    let keeps = insert_keeps dist most t lawful (laws iv) number v iv (subst (λ (x : PlainTree). get (contents x) number ≡ None) (sym same) absent) (tree_of t.width h n) is in
+    let keeps = insert_keeps dist most t lawful (laws iv) number v iv (subst (λ (x : PlainTree). get (contents x) number ≡ None) (sym same) absent) (subst (λ (x : PlainTree). len (contents x) < 200000) (sym same) room) (tree_of t.width h n) is in
     (keeps.0, subst (λ (x : PlainTree). IsGrown dist most x (tree_of t.width h n) number v) same keeps.1)

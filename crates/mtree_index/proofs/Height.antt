@@ -1,5 +1,5 @@
 -- A tree of few records is low: each node but the root has 7 entries or more.
-use Rattle.std.proofs.Common.{ℕ, zero, suc, ◌*◌, ◌<◌, ◌≤◌, ◌↔◌, List, [], ◌∷◌, length, Option, Some, None, ◌≡◌, refl, arith, length-append}
+use Rattle.std.proofs.Common.{ℕ, zero, suc, ◌*◌, ◌≤◌, ◌↔◌, List, [], ◌∷◌, length, Option, Some, None, ◌≡◌, refl, arith, length-append}
 use Rattle.std.proofs.Math.Nat.{mul-le-mul_right, add-mul}
 use Rattle.std.specs.List.{AllByRecursion, flat_map}
 use Rattle.mtree_node.specs.declared.node.LeafEntry.{LeafEntry}
@@ -48,8 +48,8 @@ module _ (dist : List ℕ → List ℕ → ℕ) (w greatest : ℕ) where
   large zero = omega arith
   large (suc h) = omega (arith, large h)
 
-  -- a tree of fewer than 200,000 records has at most 6 levels
-  pub low_tree : (h : ℕ) (n : Node) → IsNode dist w greatest h None n → length (leaves h n) < 200000 → h ≤ 6
+  -- a tree of at most 200,000 records has at most 6 levels
+  pub low_tree : (h : ℕ) (n : Node) → IsNode dist w greatest h None n → length (leaves h n) ≤ 200000 → h ≤ 6
   low_tree zero n s l = absurd s
   low_tree (suc zero) n s l = omega arith
   low_tree (suc (suc zero)) n s l = omega arith

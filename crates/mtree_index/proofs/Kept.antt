@@ -22,11 +22,11 @@ use Rattle.mtree_index.proofs.Places.{all_append, all_weaker}
 use Rattle.mtree_index.proofs.Totals.{total, total-cons, total-append, total-flat_map, total-one_each, far, none_far, all_within}
 
 module _ {A : Type 0} where
-  all_both : (P Q R : A → Type 0) (xs : List A) → ((x : A) → P x → Q x → R x) → AllByRecursion P xs → AllByRecursion Q xs → AllByRecursion R xs
+  pub all_both : (P Q R : A → Type 0) (xs : List A) → ((x : A) → P x → Q x → R x) → AllByRecursion P xs → AllByRecursion Q xs → AllByRecursion R xs
   all_both P Q R [] k p q = tt
   all_both P Q R (x ∷ xs) k p q = (k x p.0 q.0, all_both P Q R xs k p.1 q.1)
 
-  all_flat : {B : Type 0} (P : B → Type 0) (L : A → List B) (xs : List A) → AllByRecursion (λ x. AllByRecursion P (L x)) xs → AllByRecursion P (flat_map L xs)
+  pub all_flat : {B : Type 0} (P : B → Type 0) (L : A → List B) (xs : List A) → AllByRecursion (λ x. AllByRecursion P (L x)) xs → AllByRecursion P (flat_map L xs)
   all_flat P L [] a = tt
   all_flat P L (x ∷ xs) a = all_append P (L x) (flat_map L xs) a.0 (all_flat P L xs a.1)
 
@@ -67,26 +67,30 @@ module _ (dist : List ℕ → List ℕ → ℕ) (w greatest : ℕ) (laws : Lawfu
   vectors_below (suc h) over n s = vectors_in h (vectors_below h) over (out-Node n) s
 
   -- the halves of a leaf
-  leaf_parts : (es : List LeafEntry) → length es ≡ 31 → AllByRecursion (λ e. IsVector w e.vector) es
+  pub leaf_parts : (es : List LeafEntry) → 31 ≤ length es → length es ≤ 36 → AllByRecursion (λ e. IsVector w e.vector) es
       → AreHalves dist w greatest laws (λ e. e.vector) (λ e. 0) leaf_with_parent (λ e. e ∷ []) (λ f d e. refl) (λ e. IsVector w e.vector) (λ o e. IsLeafEntry dist w greatest (Some o) e) (λ e k. k)
       (λ e k o i. (omega (arith, laws.bound o e.vector i k), tt)) (λ e k o i. record { vector = k; parent = refl }) es
-  leaf_parts es full a = halves dist w greatest laws (λ e. e.vector) (λ e. 0) leaf_with_parent (λ e. e ∷ []) (λ f d e. refl) (λ e. IsVector w e.vector) (λ o e. IsLeafEntry dist w greatest (Some o) e) (λ e k. k)
-      (λ e k o i. (omega (arith, laws.bound o e.vector i k), tt)) (λ e k o i. record { vector = k; parent = refl }) es full a
+  leaf_parts es many few a = halves dist w greatest laws (λ e. e.vector) (λ e. 0) leaf_with_parent (λ e. e ∷ []) (λ f d e. refl) (λ e. IsVector w e.vector) (λ o e. IsLeafEntry dist w greatest (Some o) e) (λ e k. k)
+      (λ e k o i. (omega (arith, laws.bound o e.vector i k), tt)) (λ e k o i. record { vector = k; parent = refl }) es many few a
 
-  near_below : (h : ℕ) (over : Option (List ℕ)) (e : InnerEntry) → IsEntry h over e → (o : List ℕ) → IsVector w o
+  pub near_below : (h : ℕ) (over : Option (List ℕ)) (e : InnerEntry) → IsEntry h over e → (o : List ℕ) → IsVector w o
       → AllByRecursion (λ l. dist o l.vector ≤ min (dist o (out-InnerEntry e).object + (out-InnerEntry e).radius) greatest) (leaves h (out-InnerEntry e).child)
   near_below h over e k o i =
       all_both (λ l. dist (out-InnerEntry e).object l.vector ≤ (out-InnerEntry e).radius) (λ l. IsVector w l.vector) _ (leaves h (out-InnerEntry e).child)
       (λ l c v. omega (arith, c, laws.triangle o (out-InnerEntry e).object l.vector i k.object v, laws.bound o l.vector i v)) k.covers (vectors_below h (Some (out-InnerEntry e).object) (out-InnerEntry e).child k.child)
 
-  -- the halves of an inner node
-  inner_parts : (h : ℕ) (over : Option (List ℕ)) (es : List InnerEntry) → length es ≡ 31 → AllByRecursion (IsEntry h over) es
-      → AreHalves dist w greatest laws (λ e. (out-InnerEntry e).object) (λ e. (out-InnerEntry e).radius) inner_with_parent (λ e. leaves h (out-InnerEntry e).child) (λ f d e. refl) (IsEntry h over) (λ o e. IsEntry h (Some o) e)
-      (λ e k. k.object) (near_below h over) (λ e k o i. record { object = k.object; parent = refl; radius = k.radius; covers = k.covers; child = k.child }) es
-  inner_parts h over es full a = halves dist w greatest laws (λ e. (out-InnerEntry e).object) (λ e. (out-InnerEntry e).radius) inner_with_parent (λ e. leaves h (out-InnerEntry e).child) (λ f d e. refl) (IsEntry h over) (λ o e. IsEntry h (Some o) e)
-      (λ e k. k.object) (near_below h over) (λ e k o i. record { object = k.object; parent = refl; radius = k.radius; covers = k.covers; child = k.child }) es full a
+  -- an inner entry that stands in some node
+  abbrev pub IsAnyEntry : ℕ → InnerEntry → Type 0
+  IsAnyEntry h e = (over : Option (List ℕ)) × IsEntry h over e
 
-  plus : {a b c d : ℕ} → a ≡ b → c ≡ d → a + c ≡ b + d
+  -- the halves of an inner node
+  pub inner_parts : (h : ℕ) (es : List InnerEntry) → 31 ≤ length es → length es ≤ 36 → AllByRecursion (IsAnyEntry h) es
+      → AreHalves dist w greatest laws (λ e. (out-InnerEntry e).object) (λ e. (out-InnerEntry e).radius) inner_with_parent (λ e. leaves h (out-InnerEntry e).child) (λ f d e. refl) (IsAnyEntry h) (λ o e. IsEntry h (Some o) e)
+      (λ e k. k.1.object) (λ e k. near_below h k.0 e k.1) (λ e k o i. record { object = k.1.object; parent = refl; radius = k.1.radius; covers = k.1.covers; child = k.1.child }) es
+  inner_parts h es many few a = halves dist w greatest laws (λ e. (out-InnerEntry e).object) (λ e. (out-InnerEntry e).radius) inner_with_parent (λ e. leaves h (out-InnerEntry e).child) (λ f d e. refl) (IsAnyEntry h) (λ o e. IsEntry h (Some o) e)
+      (λ e k. k.1.object) (λ e k. near_below h k.0 e k.1) (λ e k o i. record { object = k.1.object; parent = refl; radius = k.1.radius; covers = k.1.covers; child = k.1.child }) es many few a
+
+  pub plus : {a b c d : ℕ} → a ≡ b → c ≡ d → a + c ≡ b + d
   plus {a} {b} {c} {d} e g = ap (λ n. n + c) e ∙ ap (λ n. b + n) g
 
   pub leaves_leaf : (h tag : ℕ) (es : List LeafEntry) → leaves (suc h) (node.Leaf tag es) ≡ es
@@ -95,7 +99,7 @@ module _ (dist : List ℕ → List ℕ → ℕ) (w greatest : ℕ) (laws : Lawfu
   pub leaves_inner : (h tag : ℕ) (es : List InnerEntry) → leaves (suc h) (node.Inner tag es) ≡ flat_map (λ e. leaves h (out-InnerEntry e).child) es
   leaves_inner h tag es = rw out_inner refl
 
-  flat_single : (f : ℕ → List ℕ → ℕ) (es : List LeafEntry) → total f (flat_map (λ e. e ∷ []) es) ≡ total f es
+  pub flat_single : (f : ℕ → List ℕ → ℕ) (es : List LeafEntry) → total f (flat_map (λ e. e ∷ []) es) ≡ total f es
   flat_single f es = total-flat_map f (λ (e : LeafEntry). e ∷ []) es ∙ total-one_each f es
 
   most : (over : Option (List ℕ)) (low n : ℕ) → IsFilled over low n → n ≤ 30
@@ -111,8 +115,32 @@ module _ (dist : List ℕ → List ℕ → ℕ) (w greatest : ℕ) (laws : Lawfu
   some_filled None low n z fill = omega (arith, fill.0)
   some_filled (Some o) low n z fill = omega (arith, fill.0)
 
-  filled_half : (n low : ℕ) (o : List ℕ) → 15 ≤ n → n ≤ 16 → IsFilled (Some o) low n
+  filled_half : (n low : ℕ) (o : List ℕ) → 15 ≤ n → n ≤ 18 → IsFilled (Some o) low n
   filled_half n low o a b = (omega arith, omega arith)
+
+  -- the entry of a half of a leaf
+  pub leaf_entry : (h tag : ℕ) (s : Half LeafEntry) → h ≡ 0 → IsVector w s.object → s.radius ≤ greatest → 15 ≤ length s.entries → length s.entries ≤ 18
+      → total (far dist s.object s.radius) (flat_map (λ e. e ∷ []) s.entries) ≡ 0 → AllByRecursion (IsLeafEntry dist w greatest (Some s.object)) s.entries
+      → IsEntry (suc h) None (entry_of s (node.Leaf tag s.entries))
+  leaf_entry h tag s z i r low high c es = record {
+    object = i;
+    parent = refl;
+    radius = r;
+    covers = rw out_leaf (all_within dist s.object s.radius s.entries (sym (flat_single (far dist s.object s.radius) s.entries) ∙ c));
+    child = rw out_leaf (z, filled_half (length s.entries) 1 s.object low high, es);
+  }
+
+  -- the entry of a half of an inner node
+  pub inner_entry : (h tag : ℕ) (s : Half InnerEntry) → 0 < h → IsVector w s.object → s.radius ≤ greatest → 15 ≤ length s.entries → length s.entries ≤ 18
+      → total (far dist s.object s.radius) (flat_map (λ e. leaves h (out-InnerEntry e).child) s.entries) ≡ 0 → AllByRecursion (IsEntry h (Some s.object)) s.entries
+      → IsEntry (suc h) None (entry_of s (node.Inner tag s.entries))
+  inner_entry h tag s z i r low high c es = record {
+    object = i;
+    parent = refl;
+    radius = r;
+    covers = rw out_inner (all_within dist s.object s.radius (flat_map (λ e. leaves h (out-InnerEntry e).child) s.entries) c);
+    child = rw out_inner (z, filled_half (length s.entries) 2 s.object low high, es);
+  }
 
   module _ (number : ℕ) (v : List ℕ) (iv : IsVector w v) where
     -- what an outcome keeps: nodes stay well formed at their height, and one record comes to those that were there
@@ -122,59 +150,37 @@ module _ (dist : List ℕ → List ℕ → ℕ) (w greatest : ℕ) (laws : Lawfu
         IsEntry h None l × IsEntry h None r
         × ((f : ℕ → List ℕ → ℕ) → total f (leaves h (out-InnerEntry l).child) + total f (leaves h (out-InnerEntry r).child) ≡ f number v + total f old)
 
-    leaf_entry : (h tag : ℕ) (s : Half LeafEntry) → h ≡ 0 → IsVector w s.object → s.radius ≤ greatest → 15 ≤ length s.entries → length s.entries ≤ 16
-        → total (far dist s.object s.radius) (flat_map (λ e. e ∷ []) s.entries) ≡ 0 → AllByRecursion (IsLeafEntry dist w greatest (Some s.object)) s.entries
-        → IsEntry (suc h) None (entry_of s (node.Leaf tag s.entries))
-    leaf_entry h tag s z i r low high c es = record {
-      object = i;
-      parent = refl;
-      radius = r;
-      covers = rw out_leaf (all_within dist s.object s.radius s.entries (sym (flat_single (far dist s.object s.radius) s.entries) ∙ c));
-      child = rw out_leaf (z, filled_half (length s.entries) 1 s.object low high, es);
-    }
-
-    inner_entry : (h tag : ℕ) (s : Half InnerEntry) → 0 < h → IsVector w s.object → s.radius ≤ greatest → 15 ≤ length s.entries → length s.entries ≤ 16
-        → total (far dist s.object s.radius) (flat_map (λ e. leaves h (out-InnerEntry e).child) s.entries) ≡ 0 → AllByRecursion (IsEntry h (Some s.object)) s.entries
-        → IsEntry (suc h) None (entry_of s (node.Inner tag s.entries))
-    inner_entry h tag s z i r low high c es = record {
-      object = i;
-      parent = refl;
-      radius = r;
-      covers = rw out_inner (all_within dist s.object s.radius (flat_map (λ e. leaves h (out-InnerEntry e).child) s.entries) c);
-      child = rw out_inner (z, filled_half (length s.entries) 2 s.object low high, es);
-    }
-
     -- a leaf to which an entry came
-    settled_leaf_kept : (h tag low : ℕ) (over : Option (List ℕ)) (es : List LeafEntry) (old : List LeafEntry) → h ≡ 0 → length es ≤ 31 → (length es ≤ 30 → IsFilled over 1 (length es))
+    settled_leaf_kept : (h tag right : ℕ) (over : Option (List ℕ)) (es : List LeafEntry) (old : List LeafEntry) → h ≡ 0 → length es ≤ 36 → (length es ≤ 30 → IsFilled over 1 (length es))
         → AllByRecursion (IsLeafEntry dist w greatest over) es → ((f : ℕ → List ℕ → ℕ) → total f es ≡ f number v + total f old)
-        → IsKept (suc h) over old (settled_leaf dist greatest tag es)
-    settled_leaf_kept h tag low over es old z most fill all adds =
+        → IsKept (suc h) over old (settled_leaf dist greatest tag right es)
+    settled_leaf_kept h tag right over es old z most fill all adds =
         elim (leb_tells 31 (length es)) [
           | inl t ↦
-              let parts = leaf_parts es (omega (arith, t.1)) (all_weaker (IsLeafEntry dist w greatest over) (λ e. IsVector w e.vector) es (λ e k. k.vector) all) in
+              let parts = leaf_parts es (omega (arith, t.1)) most (all_weaker (IsLeafEntry dist w greatest over) (λ e. IsVector w e.vector) es (λ e k. k.vector) all) in
               let l = left_half dist greatest (λ (e : LeafEntry). e.vector) (λ e. 0) leaf_with_parent es in
               let r = right_half dist greatest (λ (e : LeafEntry). e.vector) (λ e. 0) leaf_with_parent es in
               rw t.0 (
                 leaf_entry h tag l z parts.left.object parts.left.radius parts.left.low parts.left.high parts.left.covers parts.left.entries,
-                leaf_entry h 0 r z parts.right.object parts.right.radius parts.right.low parts.right.high parts.right.covers parts.right.entries,
-                λ f. plus (ap (total f) (leaves_leaf h tag l.entries)) (ap (total f) (leaves_leaf h 0 r.entries)) ∙ omega (arith, flat_single f l.entries, flat_single f r.entries, flat_single f es, parts.sums f, adds f),
+                leaf_entry h right r z parts.right.object parts.right.radius parts.right.low parts.right.high parts.right.covers parts.right.entries,
+                λ f. plus (ap (total f) (leaves_leaf h tag l.entries)) (ap (total f) (leaves_leaf h right r.entries)) ∙ omega (arith, flat_single f l.entries, flat_single f r.entries, flat_single f es, parts.sums f, adds f),
               )
           | inr n ↦ rw n.0 (rw out_leaf ((z, fill (omega (arith, n.1)), all), adds))
         ]
 
-    settled_inner_kept : (h tag low : ℕ) (over : Option (List ℕ)) (es : List InnerEntry) (old : List LeafEntry) → 0 < h → length es ≤ 31 → (length es ≤ 30 → IsFilled over 2 (length es))
+    settled_inner_kept : (h tag right : ℕ) (over : Option (List ℕ)) (es : List InnerEntry) (old : List LeafEntry) → 0 < h → length es ≤ 36 → (length es ≤ 30 → IsFilled over 2 (length es))
         → AllByRecursion (IsEntry h over) es → ((f : ℕ → List ℕ → ℕ) → total f (flat_map (λ e. leaves h (out-InnerEntry e).child) es) ≡ f number v + total f old)
-        → IsKept (suc h) over old (settled_inner dist greatest tag es)
-    settled_inner_kept h tag low over es old z most fill all adds =
+        → IsKept (suc h) over old (settled_inner dist greatest tag right es)
+    settled_inner_kept h tag right over es old z most fill all adds =
         elim (leb_tells 31 (length es)) [
           | inl t ↦
-              let parts = inner_parts h over es (omega (arith, t.1)) all in
+              let parts = inner_parts h es (omega (arith, t.1)) most (all_weaker (IsEntry h over) (IsAnyEntry h) es (λ e k. (over, k)) all) in
               let l = left_half dist greatest (λ (e : InnerEntry). (out-InnerEntry e).object) (λ e. (out-InnerEntry e).radius) inner_with_parent es in
               let r = right_half dist greatest (λ (e : InnerEntry). (out-InnerEntry e).object) (λ e. (out-InnerEntry e).radius) inner_with_parent es in
               rw t.0 (
                 inner_entry h tag l z parts.left.object parts.left.radius parts.left.low parts.left.high parts.left.covers parts.left.entries,
-                inner_entry h 0 r z parts.right.object parts.right.radius parts.right.low parts.right.high parts.right.covers parts.right.entries,
-                λ f. plus (ap (total f) (leaves_inner h tag l.entries)) (ap (total f) (leaves_inner h 0 r.entries)) ∙ omega (arith, parts.sums f, adds f),
+                inner_entry h right r z parts.right.object parts.right.radius parts.right.low parts.right.high parts.right.covers parts.right.entries,
+                λ f. plus (ap (total f) (leaves_inner h tag l.entries)) (ap (total f) (leaves_inner h right r.entries)) ∙ omega (arith, parts.sums f, adds f),
               )
           | inr n ↦ rw n.0 (rw out_inner ((z, fill (omega (arith, n.1)), all), adds))
         ]
@@ -220,7 +226,7 @@ module _ (dist : List ℕ → List ℕ → ℕ) (w greatest : ℕ) (laws : Lawfu
         → IsKept (suc h) over (leaves_in (leaves h) n) (inserted_in dist greatest number v (λ object m. inserted dist greatest number v h (Some object) m) over n)
     kept_in h ih over (Node-F.Leaf tag es) s =
         let new : LeafEntry = new_entry dist greatest number v over in
-        settled_leaf_kept h tag 1 over (es ++ new ∷ []) es s.0 (omega (arith, length-append es (new ∷ []), most over 1 (length es) s.1)) (λ room. more_filled over 1 (length es) (length (es ++ new ∷ [])) s.1 (omega (arith, length-append es (new ∷ []))) room)
+        settled_leaf_kept h tag 0 over (es ++ new ∷ []) es s.0 (omega (arith, length-append es (new ∷ []), most over 1 (length es) s.1)) (λ room. more_filled over 1 (length es) (length (es ++ new ∷ [])) s.1 (omega (arith, length-append es (new ∷ []))) room)
         (all_append (IsLeafEntry dist w greatest over) es (new ∷ []) s.2 (record { vector = iv; parent = refl }, tt))
         (λ f. omega (arith, total-append f es (new ∷ []), total-cons f new []))
     kept_in h ih over (Node-F.Inner tag es) s =
@@ -231,7 +237,7 @@ module _ (dist : List ℕ → List ℕ → ℕ) (w greatest : ℕ) (laws : Lawfu
         let some : 0 < length es = some_filled over 2 (length es) (omega arith) s.1 in
         let inside : at < length es = first_inside (slice_index (map (entry_rank dist v) es)) (length es) some in
         let between = length_between (IsEntry h over) F (λ e k. after_length over (out-InnerEntry e) (entry_distance dist v e) (below (out-InnerEntry e).object (out-InnerEntry e).child)) at es s.2 in
-        settled_inner_kept h tag 2 over (replaced_at at F es) (flat_map (λ e. leaves h (out-InnerEntry e).child) es) s.0 (omega (arith, between.1, most over 2 (length es) s.1)) (λ room. more_filled over 2 (length es) (length (replaced_at at F es)) s.1 between.0 room)
+        settled_inner_kept h tag 0 over (replaced_at at F es) (flat_map (λ e. leaves h (out-InnerEntry e).child) es) s.0 (omega (arith, between.1, most over 2 (length es) s.1)) (λ room. more_filled over 2 (length es) (length (replaced_at at F es)) s.1 between.0 room)
         (all_same_place (IsEntry h over) F at es s.2 (λ e k. after_all h over e k (below (out-InnerEntry e).object (out-InnerEntry e).child) (kept e k)))
         (λ f. total-flat_map f (λ (e : InnerEntry). leaves h (out-InnerEntry e).child) (replaced_at at F es)
         ∙ (sum_replaced (IsEntry h over) (λ (e : InnerEntry). total f (leaves h (out-InnerEntry e).child)) F (f number v) (λ e k. after_sum h over e (below (out-InnerEntry e).object (out-InnerEntry e).child) (kept e k) f) at es inside s.2

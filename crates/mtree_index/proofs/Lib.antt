@@ -15,3 +15,10 @@ pub mod Rising
 pub mod Sides
 pub mod Totals
 pub mod Widths
+pub mod Walks
+pub mod Joins
+pub mod Lost
+pub mod Shrunk
+pub mod Small
+pub mod Opening
+pub mod Found

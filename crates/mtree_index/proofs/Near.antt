@@ -1,8 +1,6 @@
 -- The numbers of the leaves within a radius, once they rise, are those that are near.
-use Rattle.std.proofs.Common.{◌≡◌, ℕ, zero, suc, ◌+◌, ◌<◌, ◌≤◌, Bool, true, false, cond, List, [], ◌∷◌, ◌++◌, map, IsTrue, Option, Some, None, refl, sym, ap, subst, ◌∙◌, arith, inl, inr}
-use lib.Dec.{T}
+use Rattle.std.proofs.Common.{◌≡◌, ℕ, ◌<◌, ◌≤◌, true, false, cond, List, [], ◌∷◌, map, IsTrue, Some, refl, sym, ap, ◌∙◌, arith, inl, inr}
 use Rattle.std.specs.Prelude.{nat_le, ◌==◌}
-use Rattle.std.specs.List.{flat_map, filter}
 use Rattle.std.specs.List.Sorted.{IsNonDecreasing, IsPermutation}
 use Rattle.std.specs.Option.{is_some}
 use Rattle.std.specs.Ordering.{nat_cmp}
@@ -12,15 +10,15 @@ use Rattle.std.specs.FinMap.Entries.{find}
 use Rattle.std.proofs.lemmas.Bool.Decides.{leb_tells}
 use Rattle.std.proofs.lemmas.List.Sums.{sum_by-cons, sum_by-append}
 use Rattle.std.proofs.lemmas.List.Sorted.{sum_by-IsPermutation}
-use Rattle.plain_dbscan.specs.Marks.{Density, density, Entries, numbers_of, within, is_near_vector, near_vector}
+use Rattle.plain_dbscan.specs.Marks.{Density, density, numbers_of, within, is_near_vector}
 use Rattle.plain_dbscan.specs.Index.{near}
 use Rattle.plain_dbscan.proofs.Chains.{Member}
-use Rattle.plain_dbscan.proofs.Members.{Rises, rises_filter, member_filter, passes_in}
-use Rattle.plain_dbscan.proofs.CoresOf.{rises_sorted, there, among}
+use Rattle.plain_dbscan.proofs.Members.{rises_filter, member_filter, passes_in}
+use Rattle.plain_dbscan.proofs.CoresOf.{rises_sorted, among}
 use Rattle.mtree_node.specs.declared.node.LeafEntry.{LeafEntry}
 use Rattle.mtree_node.specs.Tree.{record_of, AreDistinct}
 use Rattle.mtree_index.specs.Found.{number_within, numbers_within}
-use Rattle.mtree_index.proofs.Distinct.{under, one, at, none_total, some_total, none_or_some}
+use Rattle.mtree_index.proofs.Distinct.{under, at, none_total, some_total, none_or_some}
 use Rattle.mtree_index.proofs.Rising.{times, member_times, times_member, rises_once, rising_same}
 use Rattle.mtree_index.proofs.Totals.{total, total-cons}
 

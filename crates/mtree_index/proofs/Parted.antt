@@ -1,4 +1,4 @@
--- The halves of 31 entries: each is well filled, reaches over what is below, and together they hold what was there.
+-- The halves of 31 to 36 entries: each is well filled, reaches over what is below, and together they hold what was there.
 use Rattle.std.proofs.Common.{◌≡◌, ℕ, zero, suc, ◌+◌, ◌*◌, ◌/◌, ◌%◌, ◌<◌, ◌≤◌, ◌^◌, min, nat_eq, if◌then◌else◌, Bool, true, false, List, [], ◌∷◌, length, map, get_or, sum_by, Some, refl, sym, ap, ◌∙◌, arith}
 use Rattle.std.specs.List.{AllByRecursion, flat_map, slice_get}
 use Rattle.std.proofs.lemmas.List.{length-map}
@@ -74,7 +74,7 @@ module _ (dist : List ℕ → List ℕ → ℕ) (width greatest : ℕ) (laws : L
       pub object : IsVector width s.object
       pub radius : s.radius ≤ greatest
       pub low : 15 ≤ length s.entries
-      pub high : length s.entries ≤ 16
+      pub high : length s.entries ≤ 18
       pub covers : total (far dist s.object s.radius) (flat_map under s.entries) ≡ 0
       pub entries : AllByRecursion (After s.object) s.entries
 
@@ -109,7 +109,7 @@ module _ (dist : List ℕ → List ℕ → ℕ) (width greatest : ℕ) (laws : L
       move e = set (dist o (object_of e)) e
 
       side_half : reach ≡ side_radius greatest (row dist (get_or (map object_of es) promoted []) (map object_of es)) (map radius_of es) sides side
-          → 15 ≤ length (on_side side sides es) → length (on_side side sides es) ≤ 16 → IsHalf (half dist greatest object_of radius_of set side promoted reach sides es)
+          → 15 ≤ length (on_side side sides es) → length (on_side side sides es) ≤ 18 → IsHalf (half dist greatest object_of radius_of set side promoted reach sides es)
       unfolding o move
       side_half is low high =
           let vec : IsVector width o = object_there (map object_of es) promoted (objects_are es before) (omega (arith, l, length-map es object_of)) in
@@ -131,7 +131,7 @@ module _ (dist : List ℕ → List ℕ → ℕ) (width greatest : ℕ) (laws : L
             entries = rw moved (all_on move (After o) side sides es (λ k e g on. moves e (all_get Before es k e before g) o vec));
           }
 
-    -- the halves of a node of 31 entries, which together hold what was there
+    -- the halves of a node of 31 to 36 entries, which together hold what was there
     pub record AreHalves (es : List A) : Type 0 where
       pub left : IsHalf (left_half dist greatest object_of radius_of set es)
       pub right : IsHalf (right_half dist greatest object_of radius_of set es)
@@ -139,7 +139,7 @@ module _ (dist : List ℕ → List ℕ → ℕ) (width greatest : ℕ) (laws : L
           → total f (flat_map under (left_half dist greatest object_of radius_of set es).entries) + total f (flat_map under (right_half dist greatest object_of radius_of set es).entries)
           ≡ total f (flat_map under es)
 
-    module _ (es : List A) (full : length es ≡ 31) (before : AllByRecursion Before es) where
+    module _ (es : List A) (many : 31 ≤ length es) (few : length es ≤ 36) (before : AllByRecursion Before es) where
       chosen : IsChosen (length es) (distances dist (map object_of es)) (map radius_of es) greatest (parting dist greatest object_of radius_of set es)
       chosen = choice_is (length es) (distances dist (map object_of es)) (map radius_of es) greatest (omega arith) laws.small
 
@@ -157,12 +157,12 @@ module _ (dist : List ℕ → List ℕ → ℕ) (width greatest : ℕ) (laws : L
           ap (λ (xs : List Bool). length xs) (sides_are (length es) (distances dist (map object_of es)) (map radius_of es) greatest (parting dist greatest object_of radius_of set es) chosen)
           ∙ sides_long (row_of (length es) (distances dist (map object_of es)) (parting dist greatest object_of radius_of set es).left) (row_of (length es) (distances dist (map object_of es)) (parting dist greatest object_of radius_of set es).right) _
 
-      right_count : length (on_side true (parting dist greatest object_of radius_of set es).sides es) ≡ 15
+      right_count : length (on_side true (parting dist greatest object_of radius_of set es).sides es) ≡ length es / 2
       right_count =
           let sides = (parting dist greatest object_of radius_of set es).sides in
           let balanced = chosen_balanced (length es) (distances dist (map object_of es)) (map radius_of es) greatest (parting dist greatest object_of radius_of set es) chosen small square (omega arith) in
           let past = chosen_none_past (length es) (distances dist (map object_of es)) (map radius_of es) greatest (parting dist greatest object_of radius_of set es) chosen small square (omega arith) in
-          length_right sides es (omega (arith, long)) past ∙ (balanced ∙ ap (λ (n : ℕ). n / 2) full)
+          length_right sides es (omega (arith, long)) past ∙ balanced
 
       row_there : (i : ℕ) → i < length es → row_of (length es) (distances dist (map object_of es)) i ≡ row dist (get_or (map object_of es) i []) (map object_of es)
       row_there i l = ap (λ (n : ℕ). row_of n (distances dist (map object_of es)) i) count_is ∙ row_is dist (map object_of es) i (omega (arith, l, count_is))

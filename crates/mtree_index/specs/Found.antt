@@ -1,5 +1,5 @@
 -- What the rule of a range query finds, in the order of the leaves. No public contract cites these: the numbers that are found are those that are near.
-use Rattle.std.specs.Prelude.{◌≡◌, ℕ, zero, suc, ◌+◌, ◌<◌, if◌then◌else◌, nat_le, List, [], ◌∷◌, Option, Some, None}
+use Rattle.std.specs.Prelude.{◌≡◌, ℕ, zero, suc, ◌+◌, ◌<◌, if◌then◌else◌, nat_le, List, [], ◌∷◌, Option, Some}
 use Rattle.std.specs.List.{AllByRecursion, flat_map}
 use Rattle.vec_record.specs.Vectors.{IsVector}
 use Rattle.mtree_node.specs.declared.node.LeafEntry.{LeafEntry}

@@ -86,18 +86,18 @@ module _ (dist : List ℕ → List ℕ → ℕ) where
       right_half dist greatest (λ e. (out-InnerEntry e).object) (λ e. (out-InnerEntry e).radius) inner_with_parent,
     )
 
-    -- a leaf of over 30 entries is split. The left node keeps the tag, and the right one has tag 0
-    abbrev pub settled_leaf : ℕ → List LeafEntry → Outcome
-    settled_leaf tag es =
+    -- a leaf of over 30 entries is split. The left node keeps the tag, and the right one has a tag of its own
+    abbrev pub settled_leaf : (tag right : ℕ) → List LeafEntry → Outcome
+    settled_leaf tag right es =
         if nat_lt 30 (length es)
-        then Splits (entry_of (leaf_halves.0 es) (node.Leaf tag (leaf_halves.0 es).entries)) (entry_of (leaf_halves.1 es) (node.Leaf 0 (leaf_halves.1 es).entries))
+        then Splits (entry_of (leaf_halves.0 es) (node.Leaf tag (leaf_halves.0 es).entries)) (entry_of (leaf_halves.1 es) (node.Leaf right (leaf_halves.1 es).entries))
         else Stays (node.Leaf tag es)
 
     -- so is an inner node of over 30 entries
-    abbrev pub settled_inner : ℕ → List InnerEntry → Outcome
-    settled_inner tag es =
+    abbrev pub settled_inner : (tag right : ℕ) → List InnerEntry → Outcome
+    settled_inner tag right es =
         if nat_lt 30 (length es)
-        then Splits (entry_of (inner_halves.0 es) (node.Inner tag (inner_halves.0 es).entries)) (entry_of (inner_halves.1 es) (node.Inner 0 (inner_halves.1 es).entries))
+        then Splits (entry_of (inner_halves.0 es) (node.Inner tag (inner_halves.0 es).entries)) (entry_of (inner_halves.1 es) (node.Inner right (inner_halves.1 es).entries))
         else Stays (node.Inner tag es)
 
     module _ (number : ℕ) (v : List ℕ) where
@@ -106,10 +106,10 @@ module _ (dist : List ℕ → List ℕ → ℕ) where
       new_entry over = record { number = number; vector = v; parent = parent_distance dist over v }
 
       abbrev pub inserted_in : (List ℕ → Node → Outcome) → Option (List ℕ) → Layer → Outcome
-      inserted_in below over (Node-F.Leaf tag es) = settled_leaf tag (es ++ new_entry over ∷ [])
-      inserted_in below over (Node-F.Inner tag es) = settled_inner tag (replaced_at (chosen v es) (renewed v over below) es)
+      inserted_in below over (Node-F.Leaf tag es) = settled_leaf tag 0 (es ++ new_entry over ∷ [])
+      inserted_in below over (Node-F.Inner tag es) = settled_inner tag 0 (replaced_at (chosen v es) (renewed v over below) es)
 
-      -- what becomes of a node below an entry with this object, none for the root, when the vector comes in
+      -- what becomes of a node below an entry with this object, none for the root, when the vector comes in. A new node has tag 0
       abbrev pub inserted : ℕ → Option (List ℕ) → Node → Outcome
       inserted zero over n = Stays n
       inserted (suc h) over n = inserted_in (λ object m. inserted h (Some object) m) over (out-Node n)

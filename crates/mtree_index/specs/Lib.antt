@@ -4,3 +4,7 @@ pub mod Insertion
 pub mod Plain
 pub mod Tree
 pub mod Found
+pub mod Removal
+pub mod Shrinking
+pub mod Joinable
+pub mod Laws

@@ -73,7 +73,7 @@ fn insert_under<M: Metric, L: Ledger>(
     ensures is { IfOk result (λ pair. (over : Option (List ℕ)) → entries_of M.dist over pair entry.new ≡ after_child M.dist over (out-InnerEntry entry.old) distance (inserted M.dist (M.most (length vector.now)) number vector.now height (Some (out-InnerEntry entry.old).object) (out-InnerEntry entry.old).child)) }
     ensures objects { IfOk result (HasWidth (length vector.now)) }
     ensures object_stays { (out-InnerEntry entry.new).object ≡ (out-InnerEntry entry.old).object }
-    ensures counted { steps.new ≤ steps.old + 1000 * height }
+    ensures counted { steps.new ≤ steps.old + 1400 * height }
 {
     entry.radius = entry.radius.max(distance);
     insert_below::<M, L>(
@@ -105,7 +105,7 @@ fn insert_among<M: Metric, L: Ledger>(
     ensures is { OnOk result (entries.new ≡ replaced_at (chosen M.dist vector.now entries.old) (renewed M.dist vector.now (option_copied over.entry) (λ object m. inserted M.dist (M.most (length vector.now)) number vector.now height (Some object) m)) entries.old) }
     ensures objects { OnOk result (AllByRecursion (λ e. length (out-InnerEntry e).object ≡ length vector.now) entries.new) }
     ensures one_more { OnOk result (length entries.new ≤ length entries.old + 1) }
-    ensures counted { steps.new ≤ steps.old + 32 + 1000 * height }
+    ensures counted { steps.new ≤ steps.old + 32 + 1400 * height }
 {
     let (place, distance) = choose_entry::<M, L>(entries.as_slice(), vector, steps);
     let entry = entries.item_mut(place);
@@ -130,7 +130,7 @@ pub fn insert_below<M: Metric, L: Ledger>(
     requires node { IsNode M.dist (length vector.now) (M.most (length vector.now)) height (option_copied over) node.old }
     ensures is { IfOk result (λ pair. outcome pair node.new ≡ inserted M.dist (M.most (length vector.now)) number vector.now height (option_copied over.entry) node.old) }
     ensures objects { IfOk result (HasWidth (length vector.now)) }
-    ensures counted { steps.new ≤ steps.old + 1000 * height }
+    ensures counted { steps.new ≤ steps.old + 1400 * height }
 {
     let width = width_of(vector);
     match node {
@@ -141,11 +141,11 @@ pub fn insert_below<M: Metric, L: Ledger>(
                 vector: vector.copy()?,
                 parent,
             })?;
-            settle_leaf::<M, L>(alloc, width, *tag, entries, steps)
+            settle_leaf::<M, L>(alloc, width, *tag, 0, entries, steps)
         }
         Node::Inner { tag, entries } => {
             insert_among::<M, L>(alloc, entries, height - 1, over, number, vector, steps)?;
-            settle_inner::<M, L>(alloc, width, *tag, entries, steps)
+            settle_inner::<M, L>(alloc, width, *tag, 0, entries, steps)
         }
     }
 }

@@ -12,10 +12,15 @@ mod entry;
 mod expected;
 mod insertion;
 mod query;
+mod joining;
+pub mod laws;
+mod removal;
 mod settle;
+mod shrinking;
 mod split;
 #[cfg(test)]
 mod tests;
 pub mod tree;
+mod under;
 
 pub use tree::MTree;

@@ -58,20 +58,21 @@ fn entry_over(
     })
 }
 
-/// Splits a leaf that has too many entries. The left node keeps the tag.
+/// Splits a leaf that has too many entries. The left node keeps the tag, and the right one gets its own.
 pub fn settle_leaf<M: Metric, L: Ledger>(
     alloc: Global,
     width: u32,
     tag: u32,
+    right_tag: u32,
     entries: &mut Items<LeafEntry>,
     steps: &mut Steps<L>,
 ) -> Result<Option<Pair>, AllocError>
     requires width { IsWidth width }
     requires vectors { AllByRecursion (λ e. length e.vector ≡ width) entries.old }
-    requires at_most { length entries.old ≤ 31 }
-    ensures is { IfOk result (λ pair. outcome pair (Node.Leaf tag entries.new) ≡ settled_leaf M.dist (M.most width) tag entries.old) }
+    requires at_most { length entries.old ≤ 36 }
+    ensures is { IfOk result (λ pair. outcome pair (Node.Leaf tag entries.new) ≡ settled_leaf M.dist (M.most width) tag right_tag entries.old) }
     ensures objects { IfOk result (HasWidth width) }
-    ensures counted { steps.new ≤ steps.old + 961 }
+    ensures counted { steps.new ≤ steps.old + 1296 }
 {
     if entries.len() <= CAPACITY {
         return Ok(None);
@@ -89,24 +90,25 @@ pub fn settle_leaf<M: Metric, L: Ledger>(
         radius,
         entries,
     } = right;
-    let right = entry_over(alloc, object, radius, Node::Leaf { tag: 0, entries })?;
+    let right = entry_over(alloc, object, radius, Node::Leaf { tag: right_tag, entries })?;
     Ok(Some(Pair { left, right }))
 }
 
-/// Splits an inner node that has too many entries. The left node keeps the tag.
+/// Splits an inner node that has too many entries. The left node keeps the tag, and the right one gets its own.
 pub fn settle_inner<M: Metric, L: Ledger>(
     alloc: Global,
     width: u32,
     tag: u32,
+    right_tag: u32,
     entries: &mut Items<InnerEntry>,
     steps: &mut Steps<L>,
 ) -> Result<Option<Pair>, AllocError>
     requires width { IsWidth width }
     requires vectors { AllByRecursion (λ e. length (out-InnerEntry e).object ≡ width) entries.old }
-    requires at_most { length entries.old ≤ 31 }
-    ensures is { IfOk result (λ pair. outcome pair (Node.Inner tag entries.new) ≡ settled_inner M.dist (M.most width) tag entries.old) }
+    requires at_most { length entries.old ≤ 36 }
+    ensures is { IfOk result (λ pair. outcome pair (Node.Inner tag entries.new) ≡ settled_inner M.dist (M.most width) tag right_tag entries.old) }
     ensures objects { IfOk result (HasWidth width) }
-    ensures counted { steps.new ≤ steps.old + 961 }
+    ensures counted { steps.new ≤ steps.old + 1296 }
 {
     if entries.len() <= CAPACITY {
         return Ok(None);
@@ -124,7 +126,7 @@ pub fn settle_inner<M: Metric, L: Ledger>(
         radius,
         entries,
     } = right;
-    let right = entry_over(alloc, object, radius, Node::Inner { tag: 0, entries })?;
+    let right = entry_over(alloc, object, radius, Node::Inner { tag: right_tag, entries })?;
     Ok(Some(Pair { left, right }))
 }
 

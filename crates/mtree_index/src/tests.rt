@@ -3,7 +3,7 @@ ghost use Rattle.std.specs.FinMap as map;
 ghost use Rattle.mtree_index.specs.Tree.{contents};
 
 use crate::MTree;
-use crate::expected::{INNER, TREE};
+use crate::expected::{INNER, SHRUNK, TREE};
 use int_metric::L1;
 use mtree_node::{InnerEntry, LeafEntry, Node};
 use plain_dbscan::RangeIndex;
@@ -155,5 +155,100 @@ fn equal_vectors_are_parted_in_turns(rt: HostRuntime) -> Result<(), Fail> {
     }
     let halves = shown(rt.alloc(), 31, 0, 0)?;
     assert!(rt; halves.as_slice() == HALVES.as_slice());
+    Ok(())
+}
+
+// The vector of a number in the sequence.
+fn vector_of(alloc: Global, number: u32, multiplier: u32) -> Result<Vector, AllocError>
+    ensures { IfOk result (λ v. length v ≡ 2) }
+{
+    let mut state = 1u32;
+    for _ in 1..number {
+        state = state.wrapping_mul(multiplier).wrapping_add(1013904223);
+        state = state.wrapping_mul(multiplier).wrapping_add(1013904223);
+    }
+    next_vector(alloc, &mut state, multiplier)
+}
+
+// Removes the numbers `factor * k` modulo 401 of the sequence's vectors, and tells how many were found.
+fn remove_some<L: Ledger>(
+    alloc: Global,
+    tree: &mut MTree<L1>,
+    ks: (u32, u32, u32),
+    multiplier: u32,
+    steps: &mut Steps<L>,
+) -> Result<u32, AllocError>
+    requires width { tree.old.width ≡ 2 }
+    requires few { (ks.1 < 1000) × (ks.2 < 1000) }
+    ensures width { tree.new.width ≡ 2 }
+{
+    let (first, last, factor) = ks;
+    let mut found = 0u32;
+    for k in first..last + 1 {
+        let number = k * factor % 401;
+        let vector = vector_of(alloc, number, multiplier)?;
+        if tree.remove(number, &vector, steps)? {
+            found = found.wrapping_add(1);
+        }
+    }
+    Ok(found)
+}
+
+fn list_of(alloc: Global, tree: &MTree<L1>) -> Result<Vec<u32>, AllocError> {
+    let mut out = Vec::new(alloc);
+    if let Some(root) = tree.root() {
+        show(root, tree.height(), &mut out)?;
+    }
+    Ok(out)
+}
+
+fn digest(list: &[u32]) -> u32 {
+    let mut value = 0u32;
+    for n in list {
+        value = value.wrapping_mul(31).wrapping_add(*n);
+    }
+    value
+}
+
+#[test]
+fn removals_leave_the_trees_that_the_rules_give(rt: HostRuntime) -> Result<(), Fail> {
+    let mut steps = Steps::<Brand>::new(Blank::new(1));
+    let mut tree = grown::<Brand>(rt.alloc(), 400, 1664525, Blank::new(1))?;
+    let mut first = 1u32;
+    for (height, length, sum) in SHRUNK {
+        let last = (first + 39).min(380);
+        let found = remove_some(rt.alloc(), &mut tree, (first, last, 167), 1664525, &mut steps)?;
+        let list = list_of(rt.alloc(), &tree)?;
+        assert_eq!(rt; found, last + 1 - first);
+        assert_eq!(rt; tree.height(), height);
+        assert_eq!(rt; list.len(), length);
+        assert_eq!(rt; digest(&list), sum);
+        first = last + 1;
+    }
+    Ok(())
+}
+
+// The leaf that is left of 31 equal vectors after the removal of 18.
+const JOINED: [u32; 29] = [
+    0, 0, 13, 19, 0, 21, 0, 23, 0, 25, 0, 27, 0, 29, 0, 31, 0, 20, 0, 22, 0, 24, 0, 26, 0, 28, 0,
+    30, 0,
+];
+
+#[test]
+fn a_leaf_with_too_few_joins_its_sibling(rt: HostRuntime) -> Result<(), Fail> {
+    let mut steps = Steps::<Brand>::new(Blank::new(1));
+    let mut tree = grown::<Brand>(rt.alloc(), 31, 0, Blank::new(1))?;
+    for (first, last, found, height) in [(1, 17, 17, 2), (18, 18, 1, 1), (18, 18, 0, 1)] {
+        let removed = remove_some(rt.alloc(), &mut tree, (first, last, 1), 0, &mut steps)?;
+        assert_eq!(rt; removed, found);
+        assert_eq!(rt; tree.height(), height);
+    }
+    assert!(rt; list_of(rt.alloc(), &tree)?.as_slice() == JOINED.as_slice());
+    for (first, last, found) in [(19, 31, 13), (31, 31, 0)] {
+        let removed = remove_some(rt.alloc(), &mut tree, (first, last, 1), 0, &mut steps)?;
+        assert_eq!(rt; removed, found);
+        assert_eq!(rt; tree.height(), 0);
+        assert!(rt; tree.root().is_none());
+    }
     Ok(())
 }

@@ -4,10 +4,12 @@ ghost use Rattle.vec_record.specs.Vectors.{IsWidth, AreBytes};
 ghost use Rattle.mtree_node.specs.Tree.{IsTree};
 ghost use Rattle.mtree_index.specs.Found.{numbers_within};
 ghost use Rattle.mtree_index.specs.Tree.{contents, leaves_of, query_cost, root_cost, IsRoot, IsGrown, grown_from};
+ghost use Rattle.mtree_index.specs.Shrinking.{IsShrunk};
 
 use crate::insertion::insert_below;
 use crate::query::search;
 use crate::settle::Pair;
+use crate::shrinking::shrink;
 use items::Items;
 use mtree_node::{LeafEntry, Node};
 use plain_dbscan::RangeIndex;
@@ -86,6 +88,10 @@ impl<M: Metric> RangeIndex<M> for MTree<M> {
 
     ghost grows = { λ before after n v g. (g.width, g.contents) };
 
+    ghost shrunk = { IsShrunk M.dist M.most };
+
+    ghost shrinks = { λ before after n v s. (s.width, s.contents) };
+
     fn range<L: Ledger>(
         &self,
         centre: &Vector,
@@ -115,6 +121,23 @@ impl<M: Metric> RangeIndex<M> for MTree<M> {
         self.height = height;
         self.root = Some(root);
         Ok(())
+    }
+
+    fn remove<L: Ledger>(
+        &mut self,
+        number: Number,
+        vector: &Vector,
+        steps: &mut Steps<L>,
+    ) -> Result<bool, AllocError> {
+        let _ = vector.as_slice();
+        let height = self.height;
+        self.height = 0;
+        let root = self.root.take();
+        let (found, root, height) =
+            shrink::<M, L>(self.alloc, height, root, number, vector, steps)?;
+        self.height = height;
+        self.root = root;
+        Ok(found)
     }
 }
 

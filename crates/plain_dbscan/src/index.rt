@@ -1,4 +1,4 @@
-ghost use Rattle.std.specs.Prelude.{◌≡◌, ℕ, ◌+◌, ◌<◌, ◌≤◌, List, length, None, OnOk};
+ghost use Rattle.std.specs.Prelude.{◌≡◌, ℕ, ◌+◌, ◌<◌, ◌≤◌, ◌↔◌, List, length, None, Some, Ok, OnOk, IfOk, IsTrue, true, false};
 ghost use Rattle.std.specs.FinMap as map;
 ghost use Rattle.vec_record.specs.Vectors.{IsWidth};
 ghost use Rattle.vec_record.specs.Held.{Rows};
@@ -23,6 +23,9 @@ pub trait RangeIndex<M: Metric> {
 
     /// An index before and after an insertion of a number and a vector.
     ghost grown: { Self → Self → ℕ → List ℕ → Type 0 };
+
+    /// An index before and after a removal of a number and its vector.
+    ghost shrunk: { Self → Self → ℕ → List ℕ → Type 0 };
 
     /// Gives in `out`, in place of what it held, exactly the numbers within `eps` of the centre, rising.
     ///
@@ -59,6 +62,28 @@ pub trait RangeIndex<M: Metric> {
         ensures vectors { HaveWidth (width self.old) (contents self.old) }
         ensures counted { steps.new ≤ steps.old + 16384 };
 
+    /// Takes out a pair. It needs a vector of the width.
+    ///
+    /// It answers false exactly where the index doesn't hold the pair, and then changes nothing and takes no
+    /// memory. After an `Err` the index stands for no stated pairs.
+    fn remove<L: Ledger>(
+        &mut self,
+        number: Number,
+        vector: &Vector,
+        steps: &mut Steps<L>,
+    ) -> Result<bool, AllocError>
+        requires width { length vector.now ≡ width self.old }
+        ensures present { IfOk result (λ found. IsTrue found ↔ (map.get (contents self.old) number ≡ Some vector.now)) }
+        ensures absent { (map.get (contents self.old) number ≡ Some vector.now → ⊥) → (result ≡ Ok false) × (self.new ≡ self.old) }
+        ensures shrunk { result ≡ Ok true → shrunk self.old self.new number vector.now }
+        ensures same_width { width self.new ≡ width self.old }
+        ensures lawful_width { IsWidth (width self.old) }
+        ensures vectors { HaveWidth (width self.old) (contents self.old) }
+        ensures counted { steps.new ≤ steps.old + (16384 + cost self.old vector.now 0) };
+
     // A grown index has the pair beside those that it had, and its width.
     ghost grows: { (before after : Self) (n : ℕ) (v : List ℕ) → grown before after n v → (width after ≡ width before) × (contents after ≡ map.insert (contents before) n v) };
+
+    // A shrunk index has the pairs that it had without this one, and its width.
+    ghost shrinks: { (before after : Self) (n : ℕ) (v : List ℕ) → shrunk before after n v → (width after ≡ width before) × (contents after ≡ map.remove (contents before) n) };
 }

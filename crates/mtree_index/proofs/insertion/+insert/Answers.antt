@@ -28,9 +28,9 @@ insert_below-returns-in_ok-insert_among-in-Inner-clause-is g t c =
     let below = λ (object : List ℕ) (m : Node). inserted g.M.Metric.dist most c.args.number v (c.args.height - 1) (Some object) m in
     let after = λ (xs : List InnerEntry). replaced_at (chosen g.M.Metric.dist v xs) (renewed g.M.Metric.dist v over below) xs in
     let new : c.insert_among.new.entries ≡ after c.in-Inner.entries = c.in_ok-insert_among-in-Inner.ensures.is ∙ ap after c.in-Inner.entries-is in
-    let whole : inserted g.M.Metric.dist most c.args.number v c.args.height over c.args.node.now ≡ settled_inner g.M.Metric.dist most c.in-Inner.tag c.insert_among.new.entries =
+    let whole : inserted g.M.Metric.dist most c.args.number v c.args.height over c.args.node.now ≡ settled_inner g.M.Metric.dist most c.in-Inner.tag 0 c.insert_among.new.entries =
     inserted_inner g.M.Metric.dist most c.args.number v over c.args.node.now c.in-Inner.tag c.args.height (c.args.height - 1) level c.in-Inner.entries c.in-Inner.is
-    ∙ ap (settled_inner g.M.Metric.dist most c.in-Inner.tag) (sym new) in
+    ∙ ap (settled_inner g.M.Metric.dist most c.in-Inner.tag 0) (sym new) in
     rw whole (search (rules, the_lemmas))
 
 pub insert_among-returns-clause-is : goal.insert_among-returns-clause-is

@@ -1,6 +1,6 @@
-use Rattle.std.proofs.Common.{◌≡◌, ◌<◌, ◌^◌, ◌++◌, List, ℕ, [], length, Option, Some, None, ap, subst, sym, ◌∙◌, refl, arith}
+use Rattle.std.proofs.Common.{◌≡◌, ◌++◌, List, ℕ, length, Option, Some, None, ap, subst, sym, ◌∙◌, refl, arith}
 use Rattle.std.specs.Option.{option_copied}
-use Rattle.vec_record.specs.Vectors.{IsVector, IsWidth}
+use Rattle.vec_record.specs.Vectors.{IsVector}
 use Rattle.mtree_node.specs.declared.node.Node.{Node}
 use Rattle.mtree_node.specs.Tree.{IsTree}
 use Rattle.mtree_index.specs.Found.{numbers_within, found}

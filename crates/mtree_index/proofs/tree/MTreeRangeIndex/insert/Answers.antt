@@ -43,10 +43,10 @@ pub invariant_of-self-2 : goal.invariant_of-self-2
 invariant_of-self-2 g c =
     let t : PlainTree = record { width = c.self.inside.width; height = c.self.inside.height; root = c.self.inside.root } in
     (call_keeps g.M.Metric.dist g.M.Metric.most t c.args.self.now c.self.view_is c.self.invariant c.args.number c.args.vector.now c.requires.width c.as_slice.ensures.bytes
-    (lawful g c.self.inside.width c.args.vector.now c.self.invariant.width) c.requires.absent c.take-root.result c.take-root.ensures.value c.in_ok-root.height c.in_ok-root.root c.in_ok-root.ensures.is).0
+    (lawful g c.self.inside.width c.args.vector.now c.self.invariant.width) c.requires.absent c.requires.room c.take-root.result c.take-root.ensures.value c.in_ok-root.height c.in_ok-root.root c.in_ok-root.ensures.is).0
 
 pub returns-clause-grown : goal.returns-clause-grown
 returns-clause-grown g c =
     let t : PlainTree = record { width = c.self.inside.width; height = c.self.inside.height; root = c.self.inside.root } in
     (call_keeps g.M.Metric.dist g.M.Metric.most t c.args.self.now c.self.view_is c.self.invariant c.args.number c.args.vector.now c.requires.width c.as_slice.ensures.bytes
-    (lawful g c.self.inside.width c.args.vector.now c.self.invariant.width) c.requires.absent c.take-root.result c.take-root.ensures.value c.in_ok-root.height c.in_ok-root.root c.in_ok-root.ensures.is).1
+    (lawful g c.self.inside.width c.args.vector.now c.self.invariant.width) c.requires.absent c.requires.room c.take-root.result c.take-root.ensures.value c.in_ok-root.height c.in_ok-root.root c.in_ok-root.ensures.is).1
