@@ -5,7 +5,9 @@ Vectors of two coordinates are inserted one by one, under the sum of the absolut
 prints the tables in the tests of `mtree_index`, in their order: the tree of 400 vectors, then the
 inner nodes alone of the tree of 700. Then the 400 are removed in a scrambled order, the k-th being the
 number 167 k modulo 401: after each 40 removals and after 380 it prints the height, the length of the
-tree's list and a digest of that list.
+tree's list and a digest of that list. The same of 700, modulo 701, after each 100 and after 690. Last
+how many distances range queries over the tree of 400 compute: the centres are the 100 vectors that follow in
+the sequence, first all with radius 0, then 1, 3 and 255.
 
 A tree is the list of its nodes from the root on, each node before its children. A leaf is 0, its tag,
 how many entries it has, and each entry's number and parent distance. An inner node is 1, its tag, how
@@ -152,6 +154,19 @@ def grown(pairs):
     return root
 
 
+def cost(node, to_object, centre, radius):
+    """The distances that the query computes in a node, whose object is at this distance of the centre, and below."""
+    total = 0
+    for e in node.entries:
+        if to_object is not None and abs(to_object - e.parent) > radius + e.radius:
+            continue
+        total += 1
+        reach = distance(centre, e.vector)
+        if not node.leaf and reach <= radius + e.radius:
+            total += cost(e.child, reach, centre, radius)
+    return total
+
+
 def rows(node, leaves):
     """The nodes from the root on, each before its children."""
     if node.leaf and not leaves:
@@ -178,14 +193,19 @@ def main():
     for count, leaves in (400, True), (700, False):
         for row in rows(grown([(k + 1, v) for k, v in enumerate(vectors(count))]), leaves):
             print(*row, sep=", ")
-    drawn = vectors(400)
-    root = grown([(k + 1, v) for k, v in enumerate(drawn)])
-    for k in range(1, 381):
-        number = 167 * k % 401
-        root = shrunk(root, number, drawn[number - 1])
-        if k % 40 == 0 or k == 380:
-            numbers = [n for row in rows(root, True) for n in row]
-            print(height(root), len(numbers), digest(numbers), sep=", ")
+    for count, step, last in (400, 40, 380), (700, 100, 690):
+        drawn = vectors(count)
+        root = grown([(k + 1, v) for k, v in enumerate(drawn)])
+        for k in range(1, last + 1):
+            number = 167 * k % (count + 1)
+            root = shrunk(root, number, drawn[number - 1])
+            if k % step == 0 or k == last:
+                numbers = [n for row in rows(root, True) for n in row]
+                print(height(root), len(numbers), digest(numbers), sep=", ")
+    numbered = [(k + 1, v) for k, v in enumerate(vectors(500))]
+    tree = grown(numbered[:400])
+    for radius in 0, 1, 3, 255:
+        print(*(cost(tree, None, v, radius) for _, v in numbered[400:]), sep=", ")
 
 
 if __name__ == "__main__":

@@ -125,8 +125,7 @@ insert_keeps dist most t lawful laws number v iv absent room after is =
       width = subst IsWidth (sym width) lawful.width;
       root = subst (λ (w : ℕ). IsRoot dist w (most w) new.height new.root) (sym width) made.0;
       few = one_more (leaves_of new.height new.root) (contents t) number v (root_distinct dist t.width (most t.width) new.height new.root made.0) made.1 room;
-    } in
-    (
+    } in (
       subst (IsLawful dist most) (sym is) whole,
       record { tree = is; width = ap (λ (x : PlainTree). x.width) is ∙ width; contents = ap contents is ∙ made.1 },
     )

@@ -127,8 +127,7 @@ module _ (dist : List ℕ → List ℕ → ℕ) (w greatest : ℕ) (laws : Lawfu
       → EntryLost h over e (option_map (with_child (out-InnerEntry e)) o)
   child_lost h over e None k l = l
   child_lost h over e (Some m) k l =
-      let x = out-InnerEntry e in
-      (
+      let x = out-InnerEntry e in (
         record {
           object = k.object;
           parent = k.parent;
@@ -272,12 +271,11 @@ module _ (dist : List ℕ → List ℕ → ℕ) (w greatest : ℕ) (laws : Lawfu
   inner_loose h tag over es (Some p) z s l =
       let r = refilled_well h over p.0 p.1 l.0 (omega (arith, two_there over (length es) s, l.1)) in
       let xs = refilled dist greatest over p.0 p.1 in
-      let L = (λ (e : InnerEntry). leaves h (out-InnerEntry e).child) in
-      (
+      let L = (λ (e : InnerEntry). leaves h (out-InnerEntry e).child) in (
         rw out_inner (z, almost over 2 (length es) (length xs) s (omega (arith, r.low, l.1)) (omega (arith, r.high, l.1)), r.all),
         λ f.
-          let now : total f (leaves (suc h) (node.Inner tag xs)) ≡ sum_by (below dist w greatest laws f h) xs = ap (total f) (leaves_inner dist w greatest laws h tag xs) ∙ total-flat_map f L xs in
-          omega (arith, now, total-flat_map f L es, r.sums f, l.2 f),
+            let now : total f (leaves (suc h) (node.Inner tag xs)) ≡ sum_by (below dist w greatest laws f h) xs = ap (total f) (leaves_inner dist w greatest laws h tag xs) ∙ total-flat_map f L xs in
+            omega (arith, now, total-flat_map f L es, r.sums f, l.2 f),
       )
 
   object_is : (a b : List ℕ) → Some a ≡ Some b → IsVector w a → IsVector w b

@@ -90,14 +90,12 @@ module _ (dist : List ℕ → List ℕ → ℕ) (w greatest : ℕ) (laws : Lawfu
   child_root_in : (h : ℕ) (o : List ℕ) (n : Layer) → IsNodeIn dist w greatest h (λ object m. IsNode dist w greatest h (Some object) m) (leaves h) (Some o) n
       → IsNode dist w greatest (suc h) None (as_root_in n) × ((f : ℕ → List ℕ → ℕ) → total f (leaves (suc h) (as_root_in n)) ≡ total f (leaves_in (leaves h) n))
   child_root_in h o (Node-F.Leaf tag es) s =
-      let many = length-map es (leaf_with_parent 0) in
-      (
+      let many = length-map es (leaf_with_parent 0) in (
         rw out_leaf (s.0, (omega (arith, many, s.1.0), omega (arith, many, s.1.1)), leaf_cleared o es s.2),
         λ f. ap (total f) (leaves_leaf dist w greatest laws h tag (map (leaf_with_parent 0) es)) ∙ leaf_total dist w greatest laws f (λ (e : LeafEntry). 0) es,
       )
   child_root_in h o (Node-F.Inner tag es) s =
-      let many = length-map es (inner_with_parent 0) in
-      (
+      let many = length-map es (inner_with_parent 0) in (
         rw out_inner (s.0, (omega (arith, many, s.1.0), omega (arith, many, s.1.1)), inner_cleared h o es s.2),
         λ f. ap (total f) (leaves_inner dist w greatest laws h tag (map (inner_with_parent 0) es) ∙ inner_leaves dist w greatest laws h (λ (e : InnerEntry). 0) es),
       )
@@ -160,8 +158,7 @@ module _ (dist : List ℕ → List ℕ → ℕ) (w greatest : ℕ) (laws : Lawfu
         let t = lowered w h m in
         let well = lowered_well h m l.0 in
         let new = leaves_of t.height t.root in
-        let loses : (f : ℕ → List ℕ → ℕ) → total f (leaves h n) ≡ f number v + total f new = λ f. omega (arith, l.1 f, well.1 f) in
-        (
+        let loses : (f : ℕ → List ℕ → ℕ) → total f (leaves h n) ≡ f number v + total f new = λ f. omega (arith, l.1 f, well.1 f) in (
           held_before number v (leaves h n) new loses tree.distinct,
           with_distinct t.height t.root well.0 (distinct_after number v (leaves h n) new loses tree.distinct),
           contents_after number v (leaves h n) new loses tree.distinct,
@@ -207,8 +204,7 @@ module _ (dist : List ℕ → List ℕ → ℕ) (most : ℕ → ℕ) (t : PlainT
   pub some_held : (after : PlainTree) → Some after ≡ after_removal dist most number v t → (get (contents t) number ≡ Some v) × IsLawful dist most after × IsShrunk dist most t after number v
   some_held after is =
       let here : Means (Some after) = subst Means (sym is) means in
-      let width : after.width ≡ t.width = shrunk_width dist (most t.width) number v t.width t.height t.root after is in
-      (
+      let width : after.width ≡ t.width = shrunk_width dist (most t.width) number v t.width t.height t.root after is in (
         held_at ∙ here.0,
         record {
           width = subst IsWidth (sym width) lawful.width;

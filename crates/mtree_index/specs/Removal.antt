@@ -75,8 +75,8 @@ module _ (dist : List ℕ → List ℕ → ℕ) where
     entry_without below over e =
         if is_skipped (to_object over) (out-InnerEntry e).radius (out-InnerEntry e).parent then None
         else (
-          if nat_le (dist v (out-InnerEntry e).object) (out-InnerEntry e).radius then option_map (with_child (out-InnerEntry e)) (below (out-InnerEntry e).object (out-InnerEntry e).child)
-          else None
+        if nat_le (dist v (out-InnerEntry e).object) (out-InnerEntry e).radius then option_map (with_child (out-InnerEntry e)) (below (out-InnerEntry e).object (out-InnerEntry e).child)
+        else None
         )
 
   module _ (greatest : ℕ) where

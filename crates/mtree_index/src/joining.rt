@@ -109,12 +109,20 @@ fn join<M: Metric, L: Ledger>(
     let object = &left.object;
     let radius = &mut left.radius;
     match (left.child.get_mut(), right.child.into_inner()) {
-        (Node::Leaf { tag, entries }, Node::Leaf { tag: right_tag, entries: more }) => {
-            join_leaves::<M, L>(alloc, object, radius, *tag, entries, right_tag, more, steps)
-        }
-        (Node::Inner { tag, entries }, Node::Inner { tag: right_tag, entries: more }) => {
-            join_inner::<M, L>(alloc, object, radius, *tag, entries, right_tag, more, steps)
-        }
+        (
+            Node::Leaf { tag, entries },
+            Node::Leaf {
+                tag: right_tag,
+                entries: more,
+            },
+        ) => { join_leaves::<M, L>(alloc, object, radius, *tag, entries, right_tag, more, steps) }
+        (
+            Node::Inner { tag, entries },
+            Node::Inner {
+                tag: right_tag,
+                entries: more,
+            },
+        ) => { join_inner::<M, L>(alloc, object, radius, *tag, entries, right_tag, more, steps) }
         _ => unreachable!(),
     }
 }

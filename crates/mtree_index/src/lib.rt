@@ -11,9 +11,11 @@ mod entry;
 #[cfg(test)]
 mod expected;
 mod insertion;
-mod query;
 mod joining;
 pub mod laws;
+mod query;
+#[cfg(test)]
+mod query_tests;
 mod removal;
 mod settle;
 mod shrinking;

@@ -10,8 +10,8 @@ use std::alloc::AllocError;
 use std::sync::ledger::Ledger;
 use vec_record::{Metric, Number, Steps, Vector};
 
-// The first pruning test: by the distances to the node's object an entry can't be within reach.
-fn is_skipped(to_object: Option<u32>, reach: u64, parent: u32) -> bool
+/// The first pruning test: by the distances to the node's object an entry can't be within reach.
+pub fn is_skipped(to_object: Option<u32>, reach: u64, parent: u32) -> bool
     ensures { result ≡ is_skipped to_object reach parent }
 {
     match to_object {

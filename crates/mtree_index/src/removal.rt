@@ -159,7 +159,9 @@ fn remove_among<M: Metric, L: Ledger>(
     ensures counted { steps.new ≤ steps.old + 1400 + 1400 * height + sum_by (λ e. entry_cost M.dist vector.now 0 (cost M.dist vector.now 0 height) to_object (out-InnerEntry e)) entries.old }
 {
     let width = vector.as_slice().len() as u32;
-    let place = remove_first::<M, L>(alloc, entries, height, over, to_object, number, vector, steps)?;
+    let place = remove_first::<M, L>(
+        alloc, entries, height, over, to_object, number, vector, steps,
+    )?;
     let Some(place) = place else {
         return Ok(false);
     };
@@ -195,7 +197,16 @@ pub fn remove_below<M: Metric, L: Ledger>(
             Ok(remove_from_leaf::<M, L>(entries, to_object, number, vector, steps))
         }
         Node::Inner { tag: _, entries } => {
-            remove_among::<M, L>(alloc, entries, height - 1, over, to_object, number, vector, steps)
+            remove_among::<M, L>(
+                alloc,
+                entries,
+                height - 1,
+                over,
+                to_object,
+                number,
+                vector,
+                steps,
+            )
         }
     }
 }

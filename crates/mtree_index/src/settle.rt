@@ -90,7 +90,15 @@ pub fn settle_leaf<M: Metric, L: Ledger>(
         radius,
         entries,
     } = right;
-    let right = entry_over(alloc, object, radius, Node::Leaf { tag: right_tag, entries })?;
+    let right = entry_over(
+        alloc,
+        object,
+        radius,
+        Node::Leaf {
+            tag: right_tag,
+            entries,
+        },
+    )?;
     Ok(Some(Pair { left, right }))
 }
 
@@ -126,7 +134,15 @@ pub fn settle_inner<M: Metric, L: Ledger>(
         radius,
         entries,
     } = right;
-    let right = entry_over(alloc, object, radius, Node::Inner { tag: right_tag, entries })?;
+    let right = entry_over(
+        alloc,
+        object,
+        radius,
+        Node::Inner {
+            tag: right_tag,
+            entries,
+        },
+    )?;
     Ok(Some(Pair { left, right }))
 }
 

@@ -3,7 +3,7 @@ ghost use Rattle.std.specs.FinMap as map;
 ghost use Rattle.mtree_index.specs.Tree.{contents};
 
 use crate::MTree;
-use crate::expected::{INNER, SHRUNK, TREE};
+use crate::expected::{INNER, SHRUNK, SHRUNK_HIGH, TREE};
 use int_metric::L1;
 use mtree_node::{InnerEntry, LeafEntry, Node};
 use plain_dbscan::RangeIndex;
@@ -13,8 +13,8 @@ use std::sync::ledger::{Blank, Ledger};
 use std::test::Fail;
 use vec_record::{Steps, Vector};
 
-// A vector of two coordinates: the upper five bits of the next two numbers of a sequence.
-fn next_vector(alloc: Global, state: &mut u32, multiplier: u32) -> Result<Vector, AllocError>
+/// A vector of two coordinates: the upper five bits of the next two numbers of a sequence.
+pub fn next_vector(alloc: Global, state: &mut u32, multiplier: u32) -> Result<Vector, AllocError>
     ensures { IfOk result (λ v. length v ≡ 2) }
 {
     let first = state.wrapping_mul(multiplier).wrapping_add(1013904223);
@@ -40,8 +40,8 @@ fn insert_next<L: Ledger>(
     tree.insert(number, vector, steps)
 }
 
-// The tree of the first vectors of the sequence.
-fn grown<L: Ledger>(
+/// The tree of the first vectors of the sequence.
+pub fn grown<L: Ledger>(
     alloc: Global,
     count: u32,
     multiplier: u32,
@@ -51,6 +51,7 @@ fn grown<L: Ledger>(
     requires name { blank.name ≡ L.name }
     requires parts { blank.parts ≡ L.parts }
     requires some { 0 < blank.parts }
+    ensures { IfOk result (λ t. t.width ≡ 2) }
 {
     let mut steps = Steps::<L>::new(blank);
     let mut tree: MTree<L1> = MTree::empty(alloc, 2);
@@ -170,22 +171,26 @@ fn vector_of(alloc: Global, number: u32, multiplier: u32) -> Result<Vector, Allo
     next_vector(alloc, &mut state, multiplier)
 }
 
-// Removes the numbers `factor * k` modulo 401 of the sequence's vectors, and tells how many were found.
+// Removes the numbers `factor * k` modulo one of the sequence's vectors, and tells how many were found.
 fn remove_some<L: Ledger>(
     alloc: Global,
     tree: &mut MTree<L1>,
-    ks: (u32, u32, u32),
+    range: (u32, u32),
+    order: (u32, u32),
     multiplier: u32,
     steps: &mut Steps<L>,
 ) -> Result<u32, AllocError>
     requires width { tree.old.width ≡ 2 }
-    requires few { (ks.1 < 1000) × (ks.2 < 1000) }
+    requires few { range.1 < 1000 }
+    requires factor { order.0 < 1000 }
+    requires some { 0 < order.1 }
     ensures width { tree.new.width ≡ 2 }
 {
-    let (first, last, factor) = ks;
+    let (first, last) = range;
+    let (factor, modulus) = order;
     let mut found = 0u32;
     for k in first..last + 1 {
-        let number = k * factor % 401;
+        let number = k * factor % modulus;
         let vector = vector_of(alloc, number, multiplier)?;
         if tree.remove(number, &vector, steps)? {
             found = found.wrapping_add(1);
@@ -210,20 +215,46 @@ fn digest(list: &[u32]) -> u32 {
     value
 }
 
+// Whether a removal of the numbers from one to another leaves a tree of this height, length and digest.
+fn leaves_the_tree<L: Ledger>(
+    alloc: Global,
+    tree: &mut MTree<L1>,
+    range: (u32, u32),
+    modulus: u32,
+    row: (u32, usize, u32),
+    steps: &mut Steps<L>,
+) -> Result<bool, AllocError>
+    requires width { tree.old.width ≡ 2 }
+    requires few { range.1 < 1000 }
+    requires some { 0 < modulus }
+    ensures width { tree.new.width ≡ 2 }
+{
+    let (first, last) = range;
+    let (height, length, sum) = row;
+    let found = remove_some(alloc, tree, range, (167, modulus), 1664525, steps)?;
+    let list = list_of(alloc, tree)?;
+    Ok(
+        found == last.wrapping_sub(first).wrapping_add(1)
+            && tree.height() == height
+            && list.len() == length
+            && digest(&list) == sum,
+    )
+}
+
 #[test]
 fn removals_leave_the_trees_that_the_rules_give(rt: HostRuntime) -> Result<(), Fail> {
     let mut steps = Steps::<Brand>::new(Blank::new(1));
     let mut tree = grown::<Brand>(rt.alloc(), 400, 1664525, Blank::new(1))?;
-    let mut first = 1u32;
-    for (height, length, sum) in SHRUNK {
-        let last = (first + 39).min(380);
-        let found = remove_some(rt.alloc(), &mut tree, (first, last, 167), 1664525, &mut steps)?;
-        let list = list_of(rt.alloc(), &tree)?;
-        assert_eq!(rt; found, last + 1 - first);
-        assert_eq!(rt; tree.height(), height);
-        assert_eq!(rt; list.len(), length);
-        assert_eq!(rt; digest(&list), sum);
-        first = last + 1;
+    for (i, row) in SHRUNK.iter().enumerate() {
+        let first = 40 * (i as u32) + 1;
+        let range = (first, (first + 39).min(380));
+        assert!(rt; leaves_the_tree(rt.alloc(), &mut tree, range, 401, *row, &mut steps)?);
+    }
+    let mut tree = grown::<Brand>(rt.alloc(), 700, 1664525, Blank::new(1))?;
+    for (i, row) in SHRUNK_HIGH.iter().enumerate() {
+        let first = 100 * (i as u32) + 1;
+        let range = (first, (first + 99).min(690));
+        assert!(rt; leaves_the_tree(rt.alloc(), &mut tree, range, 701, *row, &mut steps)?);
     }
     Ok(())
 }
@@ -239,13 +270,27 @@ fn a_leaf_with_too_few_joins_its_sibling(rt: HostRuntime) -> Result<(), Fail> {
     let mut steps = Steps::<Brand>::new(Blank::new(1));
     let mut tree = grown::<Brand>(rt.alloc(), 31, 0, Blank::new(1))?;
     for (first, last, found, height) in [(1, 17, 17, 2), (18, 18, 1, 1), (18, 18, 0, 1)] {
-        let removed = remove_some(rt.alloc(), &mut tree, (first, last, 1), 0, &mut steps)?;
+        let removed = remove_some(
+            rt.alloc(),
+            &mut tree,
+            (first, last),
+            (1, 401),
+            0,
+            &mut steps,
+        )?;
         assert_eq!(rt; removed, found);
         assert_eq!(rt; tree.height(), height);
     }
     assert!(rt; list_of(rt.alloc(), &tree)?.as_slice() == JOINED.as_slice());
     for (first, last, found) in [(19, 31, 13), (31, 31, 0)] {
-        let removed = remove_some(rt.alloc(), &mut tree, (first, last, 1), 0, &mut steps)?;
+        let removed = remove_some(
+            rt.alloc(),
+            &mut tree,
+            (first, last),
+            (1, 401),
+            0,
+            &mut steps,
+        )?;
         assert_eq!(rt; removed, found);
         assert_eq!(rt; tree.height(), 0);
         assert!(rt; tree.root().is_none());

@@ -133,8 +133,9 @@ impl<M: Metric> RangeIndex<M> for MTree<M> {
         let height = self.height;
         self.height = 0;
         let root = self.root.take();
-        let (found, root, height) =
-            shrink::<M, L>(self.alloc, height, root, number, vector, steps)?;
+        let (found, root, height) = shrink::<M, L>(
+            self.alloc, height, root, number, vector, steps,
+        )?;
         self.height = height;
         self.root = root;
         Ok(found)

@@ -1,6 +1,6 @@
 -- What is due to an input within the limit is the report on it.
 use Rattle.std.proofs.Common.{◌≡◌, ℕ, ◌<◌, ◌≤◌, Bool, true, false, cond, List, length, sym, ap, ◌∙◌, arith}
-use Rattle.std.specs.Prelude.{Option, Some, None, nat_le, codes}
+use Rattle.std.specs.Prelude.{Option, None, nat_le, codes}
 use Rattle.std.proofs.lemmas.Bool.Decides.{nat_tests}
 use Rattle.session_desk.specs.declared.status.Status as status
 use Rattle.session_desk.specs.declared.status.Status.TheVariants.{TooLong}

@@ -6,7 +6,6 @@ use Rattle.site_disk.specs.State.{SiteState, Safe}
 use Rattle.page_gate.specs.Gate.{is_blank, opening, Opens, count_of, number_4, part}
 use Rattle.page_gate.specs.Promises.{Asks, Bears}
 use Rattle.page_layout.specs.Heads.{Values, head_page}
-use Rattle.page_layout.specs.Fields.{word}
 use Rattle.session_desk.specs.Moments.{IsSaying}
 use Rattle.session_desk.specs.Births.{new_head, new_pages, birth_due, IsBirthImage, IsBirthMoment}
 use Rattle.session_desk.specs.Bearing.{IsBearing}

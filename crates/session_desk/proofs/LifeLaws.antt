@@ -1,5 +1,5 @@
 -- Lives keep batches: an induction over the runs.
-use Rattle.std.proofs.Common.{◌≡◌, ◌⊎◌, inl, inr, ℕ, ◌+◌, ◌-◌, ◌≤◌, ◌<◌, Bool, true, false, cond, List, [], ◌∷◌, ◌++◌, length, take, refl, sym, ap, subst, ◌∙◌, arith}
+use Rattle.std.proofs.Common.{◌≡◌, ◌⊎◌, inl, inr, ℕ, ◌+◌, ◌-◌, ◌≤◌, ◌<◌, Bool, true, false, cond, List, [], ◌∷◌, length, refl, sym, ap, subst, ◌∙◌, arith}
 use Rattle.std.specs.Prelude.{Option, Some, None, Result, Ok, Err, nat_le, codes}
 use Rattle.std.specs.List.{list_any}
 use Rattle.std.proofs.lemmas.Bool.Decides.{nat_tests}
@@ -13,12 +13,11 @@ use Rattle.store_image.specs.Stores.{IsSound, records_on, batches_on, refusal_on
 use Rattle.warehouse_core.specs.declared.refusal.Refusal as batch
 use Rattle.warehouse_core.specs.declared.refusal.Refusal.TheVariants as batch_refusal
 use Rattle.warehouse_core.specs.Batches.{marks_on, outcome}
-use Rattle.session_desk.specs.Session.{Answer, Request, Batch, Cut, Line, answer, answers, batch_answer, tells, refuses, acked, in_list, rows_behind, batches_behind, rows_after_all, says, body_of, requests_of}
+use Rattle.session_desk.specs.Session.{Answer, Request, Batch, Cut, Line, answer, answers, batch_answer, tells, refuses, acked, in_list, rows_behind, batches_behind, says, body_of, requests_of}
 use Rattle.session_desk.specs.Input.{is_long}
-use Rattle.session_desk.specs.Courses.{session, course_by, values_on, accepted, Course}
-use Rattle.session_desk.specs.Headline.{IsCrash}
+use Rattle.session_desk.specs.Courses.{session, course_by, values_on}
 use Rattle.site_disk.specs.State.{SiteState}
-use Rattle.session_desk.specs.Lives.{Run, content_of, Finds, Starts, MayLeave, IsLife, FoundFirst, Grows, Survives, Leaves, LivesKeepBatches, RunsStartSound}
+use Rattle.session_desk.specs.Lives.{Run, content_of, Finds, Starts, MayLeave, IsLife, FoundFirst, Grows, Leaves, LivesKeepBatches, RunsStartSound}
 
 -- an answer that accepts a batch says something
 abbrev HasText : Answer → Type 0

@@ -1,9 +1,8 @@
 -- The answer to one request.
-use Rattle.std.proofs.Common.{◌≡◌, ◌⊎◌, inl, inr, ⊎_elim, ℕ, ◌+◌, ◌≤◌, Bool, true, false, cond, List, [], ◌∷◌, ◌++◌, length, take, Result, refl, sym, ap, subst, ◌∙◌, arith}
-use Rattle.std.specs.Prelude.{Option, Some, None, Ok, Err, IsTrue, IfOk}
+use Rattle.std.proofs.Common.{◌≡◌, ◌⊎◌, inl, inr, ℕ, Bool, true, false, cond, List, ◌++◌, take, Result, refl, sym, ap, subst, ◌∙◌}
+use Rattle.std.specs.Prelude.{Option, None, Ok, Err, IfOk}
 use Rattle.std.specs.List.{list_any}
 use Rattle.std.proofs.lemmas.List.{append-nil}
-use Rattle.vec_record.specs.declared.change.Change.{Change}
 use Rattle.vec_record.specs.Held.{Rows}
 use Rattle.site_disk.specs.State.{SiteState, IsNow, Safe}
 use Rattle.site_disk.specs.Calls.{Speaks}
@@ -11,18 +10,16 @@ use Rattle.site_disk.proofs.Moments.{start, after_say}
 use Rattle.page_gate.specs.Gate.{opening, Opens}
 use Rattle.page_gate.specs.Promises.{Holds}
 use Rattle.store_image.specs.Stores.{IsStore, LoadsAreStores}
-use Rattle.store_image.specs.Loading.{load_of}
-use Rattle.store_image.specs.Images.{Image}
 use Rattle.page_layout.specs.Heads.{Values}
 use Rattle.warehouse_core.specs.declared.refusal.Refusal.{Refusal}
-use Rattle.warehouse_core.specs.States.{State, LoadsAs}
-use Rattle.warehouse_core.specs.Applying.{due, IsBefore, Accepts}
+use Rattle.warehouse_core.specs.States.{State}
+use Rattle.warehouse_core.specs.Applying.{due, IsBefore}
 use Rattle.session_desk.specs.declared.status.Status.{Status}
 use Rattle.session_desk.specs.declared.requests.Asked as read
 use Rattle.session_desk.specs.declared.requests.Asked.TheVariants as asked
 use Rattle.session_desk.specs.Input.{is_long}
 use Rattle.session_desk.specs.Answers.{refusal_line}
-use Rattle.session_desk.specs.Session.{Request, Batch, Answer, answer, batch_answer, refuses, body_of, rows_behind, batches_behind}
+use Rattle.session_desk.specs.Session.{Request, Batch, Answer, batch_answer, refuses, body_of, rows_behind, batches_behind}
 use Rattle.session_desk.specs.Asking.{IsAsked}
 use Rattle.session_desk.specs.Talks.{IsServing, answer_on, IsBehind, IsNextState, IsAnswered, Answering, IsReplying}
 use Rattle.session_desk.proofs.Going.{safe_as}

@@ -1,6 +1,6 @@
 -- From a session over a warehouse to the headline over a content.
-use Rattle.std.proofs.Common.{◌≡◌, ◌⊎◌, inl, inr, ⊎_elim, ℕ, ◌+◌, ◌≤◌, ◌^◌, ◌-◌, min, Bool, true, false, cond, List, [], ◌∷◌, ◌++◌, length, take, drop, Result, Ok, Err, refl, sym, ap, subst, ◌∙◌, arith}
-use Rattle.std.specs.Prelude.{Option, Some, None, unwrap_or, MatchResult}
+use Rattle.std.proofs.Common.{◌≡◌, ◌⊎◌, inl, inr, ⊎_elim, ℕ, ◌+◌, ◌≤◌, true, false, List, [], ◌++◌, length, take, drop, Result, Ok, Err, refl, sym, ap, subst, ◌∙◌, arith}
+use Rattle.std.specs.Prelude.{Option, Some, None, unwrap_or}
 use Rattle.std.proofs.lemmas.List.{append-nil, length-append, take-append-drop}
 use Rattle.std.proofs.Math.Seq.{take-append_seam}
 use Rattle.vec_record.specs.declared.change.Change.{Change}
@@ -8,7 +8,7 @@ use Rattle.vec_record.specs.declared.kind.MetricKind.TheVariants as kind
 use Rattle.vec_record.specs.Held.{Rows}
 use Rattle.site_disk.specs.State.{SiteState, Safe}
 use Rattle.site_disk.specs.Causes.{Rose}
-use Rattle.page_gate.specs.Gate.{opening, Opening, Opens, Refuses}
+use Rattle.page_gate.specs.Gate.{opening, Opens}
 use Rattle.page_gate.specs.Promises.{IsAsWas, IsRefusal}
 use Rattle.page_gate.specs.declared.fault.OpenFault.{OpenFault}
 use Rattle.page_gate.specs.declared.fault.OpenFault.TheVariants.{Blank, Foreign, Damaged, SiteFault, Memory}
@@ -17,17 +17,17 @@ use Rattle.store_image.specs.declared.fault.StoreFault as store
 use Rattle.store_image.specs.declared.fault.StoreFault.TheVariants as store_fault
 use Rattle.store_image.specs.Images.{Image}
 use Rattle.store_image.specs.Loading.{and_then, values_of_head, head_in_pages, params_in_pages, load_of, Fails}
-use Rattle.store_image.specs.Stores.{IsStore, IsSound, AreAlike, SameOpeningsAreAlike, LoadsAreStores, refusal_on, records_on, batches_on, params_on, verdict, refusal_of}
-use Rattle.warehouse_core.specs.States.{State, LoadsAs}
+use Rattle.store_image.specs.Stores.{IsStore, IsSound, SameOpeningsAreAlike, LoadsAreStores, refusal_on, records_on, batches_on, verdict, refusal_of}
+use Rattle.warehouse_core.specs.States.{State}
 use Rattle.session_desk.specs.declared.status.Status.{Status}
 use Rattle.session_desk.specs.declared.status.Status.TheVariants as status
 use Rattle.session_desk.specs.Statuses.{is_fault}
 use Rattle.session_desk.specs.Moments.{IsSaying}
 use Rattle.session_desk.specs.Session.{Answer, Request, answers, text_of, accepted_by, acked, rows_after_all, requests_of, whole_requests}
 use Rattle.session_desk.specs.Courses.{Course, course_text, course_by, begun, session, values_on, accepted}
-use Rattle.session_desk.specs.Headline.{IsStoreAfter, IsCrash, IsMoment, SaysAll, SaysWhole, KeepsAll, IsSettled, IsUntouched}
+use Rattle.session_desk.specs.Headline.{IsStoreAfter, IsMoment, SaysAll, SaysWhole, KeepsAll, IsSettled, IsUntouched}
 use Rattle.session_desk.specs.Talks.{answers_on, talk, IsStoreAt, IsTalk, Concludes, IsKept, IsCutOff, IsEven}
-use Rattle.session_desk.specs.Opened.{is_outside, fault_of, refusal_course, AreOpened, IsLoaded}
+use Rattle.session_desk.specs.Opened.{is_outside, fault_of, refusal_course, IsLoaded}
 use Rattle.session_desk.proofs.LifeLaws.{acked-none}
 use Rattle.session_desk.proofs.Going.{safe_as, then_safe, then_said}
 

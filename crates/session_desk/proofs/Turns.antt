@@ -1,5 +1,5 @@
 -- A session over a warehouse, turn by turn: its moments, and its ends.
-use Rattle.std.proofs.Common.{◌≡◌, ◌⊎◌, inl, inr, ⊎_elim, ℕ, ◌+◌, ◌-◌, ◌≤◌, ◌<◌, Bool, true, false, cond, List, [], ◌∷◌, ◌++◌, length, take, drop, Result, refl, sym, ap, subst, ◌∙◌, arith, append_assoc}
+use Rattle.std.proofs.Common.{◌≡◌, ◌⊎◌, inl, inr, ⊎_elim, ℕ, ◌+◌, ◌≤◌, Bool, true, false, cond, List, [], ◌∷◌, ◌++◌, length, take, drop, refl, sym, ap, subst, ◌∙◌, arith, append_assoc}
 use Rattle.std.specs.Prelude.{Option, Some, None, Ok, Err, IsTrue, codes, ◌||◌}
 use Rattle.std.specs.List.{list_any}
 use Rattle.std.proofs.lemmas.List.{append-nil, length-append, take-append-drop}
@@ -26,12 +26,12 @@ use Rattle.session_desk.specs.declared.reading.ReadFault.{ReadFault}
 use Rattle.session_desk.specs.declared.reading.ReadFault.TheVariants as read_fault
 use Rattle.session_desk.specs.Asking.{Asks, IsAsked, asks, rest_of, is_past, AreWhole, IsNext, IsBroken}
 use Rattle.session_desk.specs.Session.{Request, Answer, is_over, text_of, in_list, accepted_by, acked, rows_behind, batches_behind, rows_after_all, requests_of, whole_requests}
-use Rattle.session_desk.specs.Courses.{Course, course_text}
-use Rattle.session_desk.specs.Talks.{IsServing, answer_on, answers_on, IsBehind, IsNextState, IsReplying, talk, IsStoreAt, IsTalk, IsRead, IsToldOf, IsStateAfter, IsGoing, Concludes, IsKept, IsCutOff, IsEven}
+use Rattle.session_desk.specs.Courses.{course_text}
+use Rattle.session_desk.specs.Talks.{IsServing, answer_on, answers_on, IsNextState, IsReplying, talk, IsStoreAt, IsTalk, IsRead, IsToldOf, IsStateAfter, IsGoing, Concludes, IsKept, IsCutOff, IsEven}
 use Rattle.session_desk.proofs.LifeLaws.{none-given}
 use Rattle.session_desk.proofs.Going.{safe_as, then_safe, then_said}
 use Rattle.session_desk.proofs.Replies.{rest-store}
-use Rattle.session_desk.proofs.Talking.{text-append, accepted-append, rows-append, answers-split, after-none, after-one, refused-one, acked-past, acked-part, few-in-list}
+use Rattle.session_desk.proofs.Talking.{text-append, accepted-append, answers-split, after-none, after-one, refused-one, acked-past, acked-part, few-in-list}
 use Rattle.session_desk.proofs.Asking.{asks_all, none_whole, more_whole, whole_so_far}
 
 abbrev ending-of : List ℕ → List ℕ

@@ -1,9 +1,8 @@
 -- What a run of `serve` comes to: its answers, what is said behind them, and the status, as a function of the content and
 -- the whole input.
-use Rattle.std.specs.Prelude.{◌≡◌, ℕ, ◌+◌, if◌then◌else◌, List, [], ◌∷◌, ◌++◌, length, unwrap_or, Option, Some, None, codes}
+use Rattle.std.specs.Prelude.{ℕ, if◌then◌else◌, List, [], ◌++◌, unwrap_or, Option, Some, None, codes}
 use Rattle.std.specs.Fmt.{decimal}
 use Rattle.std.specs.List.{list_any}
-use Rattle.vec_record.specs.Held.{Rows}
 use Rattle.vec_record.specs.declared.change.Change.{Change}
 use Rattle.vec_record.specs.declared.kind.MetricKind.TheVariants.{L1}
 use Rattle.page_gate.specs.declared.fault.OpenFault as gate

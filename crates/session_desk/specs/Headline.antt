@@ -1,11 +1,10 @@
 -- The headline: what is said is what plain clustering says of the records, and no crash loses an acknowledged batch.
-use Rattle.std.specs.Prelude.{◌≡◌, ◌⊎◌, ℕ, ◌+◌, ◌≤◌, List, [], ◌++◌, length, take}
-use Rattle.site_disk.specs.State.{SiteState, Safe}
+use Rattle.std.specs.Prelude.{◌≡◌, ◌⊎◌, ℕ, ◌+◌, ◌≤◌, List, ◌++◌, length, take}
+use Rattle.site_disk.specs.State.{SiteState}
 use Rattle.page_gate.specs.Gate.{opening}
 use Rattle.page_gate.specs.Same.{IsOnly}
 use Rattle.store_image.specs.Stores.{IsSound, records_on, batches_on, params_on}
 use Rattle.session_desk.specs.declared.status.Status.{Status}
-use Rattle.session_desk.specs.declared.status.Status.TheVariants.{Fine, Refused, SourceFault, Memory, TooLong}
 use Rattle.session_desk.specs.Session.{acked, answers, text_of, rows_after_all, whole_requests}
 use Rattle.session_desk.specs.Courses.{session, course_text, values_on, accepted}
 

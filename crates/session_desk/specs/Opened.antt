@@ -1,5 +1,5 @@
 -- The opening of a store. The code alone speaks of this.
-use Rattle.std.specs.Prelude.{◌≡◌, ◌≢◌, ◌⊎◌, ℕ, Bool, true, false, List, [], Option, Some, None, Result, MatchResult, IfErr}
+use Rattle.std.specs.Prelude.{◌≡◌, ◌≢◌, ℕ, Bool, true, false, List, [], Some, Result, MatchResult}
 use Rattle.site_disk.specs.State.{SiteState, Safe}
 use Rattle.page_gate.specs.Gate.{opening, Opens}
 use Rattle.page_gate.specs.Promises.{Holds, IsAsWas, IsRefusal}

@@ -1,8 +1,7 @@
 -- A session over a warehouse that was loaded, turn by turn. The code alone speaks of this.
-use Rattle.std.specs.Prelude.{◌≡◌, ◌⊎◌, ℕ, ◌+◌, ◌≤◌, Bool, true, false, List, ◌∷◌, ◌++◌, length, take, IsTrue, Option, Result, Ok, Err}
+use Rattle.std.specs.Prelude.{◌≡◌, ◌⊎◌, ℕ, ◌+◌, ◌≤◌, Bool, true, false, List, ◌++◌, length, take, IsTrue, Option, Result, Ok, Err}
 use Rattle.std.specs.List.{list_any}
 use Rattle.site_disk.specs.State.{SiteState, Safe}
-use Rattle.page_gate.specs.Promises.{Holds}
 use Rattle.page_gate.specs.Same.{IsOnly}
 use Rattle.store_image.specs.Stores.{IsStore}
 use Rattle.warehouse_core.specs.declared.refusal.Refusal.{Refusal}

@@ -1,6 +1,6 @@
-use Rattle.std.proofs.Common.{◌≡◌, Bool, true, ◌++◌, ◌∙◌}
+use Rattle.std.proofs.Common.{◌≡◌, Bool, true, ◌++◌}
 use Rattle.session_desk.specs.Answers.{refusal_line}
-use Rattle.session_desk.specs.Session.{Request, Batch}
+use Rattle.session_desk.specs.Session.{Batch}
 use Rattle.session_desk.specs.Talks.{IsAnswered}
 use Rattle.session_desk.proofs.Replies.{refused-batch, if-ok}
 use Rattle.session_desk.proofs.answering.answer_batch.Goals as goal

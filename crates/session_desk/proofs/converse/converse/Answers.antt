@@ -1,9 +1,7 @@
-use Rattle.std.proofs.Common.{rules, ◌≡◌, ◌++◌, ◌⊎◌, ⊎_elim, inl, inr, Bool, true, false, List, ℕ, Err, refl, sym, ap, subst, ◌∙◌, IsTrue}
+use Rattle.std.proofs.Common.{rules, ◌≡◌, ⊎_elim, Bool, false, Err, refl, sym, ap, subst, ◌∙◌}
 use Rattle.std.specs.Prelude.{◌||◌}
 use Rattle.site_disk.specs.State.{Safe}
-use Rattle.session_desk.specs.declared.status.Status.{Status}
 use Rattle.session_desk.specs.declared.status.Status.TheVariants as status
-use Rattle.session_desk.specs.declared.reading.ReadFault.TheVariants as read_fault
 use Rattle.session_desk.specs.Lines.{Reading}
 use Rattle.session_desk.specs.Talks.{IsGoing, IsTalk, IsCutOff, IsEven}
 use Rattle.session_desk.proofs.Replies.{rest-store}

@@ -1,4 +1,4 @@
-use Rattle.std.proofs.Common.{◌≡◌, Bool, List, ℕ, ◌++◌, ap, ◌∙◌}
+use Rattle.std.proofs.Common.{List, ℕ, ◌++◌, ap, ◌∙◌}
 use Rattle.session_desk.specs.Talks.{answer_on}
 use Rattle.session_desk.proofs.Replies.{replies}
 use Rattle.session_desk.proofs.converse.reply.Goals as goal

@@ -1,5 +1,5 @@
 use Rattle.std.proofs.Common.{◌++◌, ℕ, List, take, ap, ◌∙◌}
-use Rattle.session_desk.specs.Words.{Setting, setting}
+use Rattle.session_desk.specs.Words.{setting}
 use Rattle.session_desk.proofs.Answered.{report_due, too_long_due}
 use Rattle.session_desk.proofs.Spoken.{same_text}
 use Rattle.session_desk.proofs.once.run_once.Goals as goal

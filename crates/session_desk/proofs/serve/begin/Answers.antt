@@ -4,7 +4,7 @@ use Rattle.page_gate.specs.Gate.{opening}
 use Rattle.page_gate.specs.Promises.{Holds}
 use Rattle.page_gate.specs.declared.fault.OpenFault.{OpenFault}
 use Rattle.session_desk.specs.declared.serve.AnyWarehouse.{AnyWarehouse}
-use Rattle.session_desk.specs.Opened.{state_of, fault_of, Loads}
+use Rattle.session_desk.specs.Opened.{state_of, Loads}
 use Rattle.session_desk.proofs.Serving.{gate-verdict, load-verdict, loaded-store}
 use Rattle.session_desk.proofs.serve.begin.Goals as goal
 

@@ -1,10 +1,10 @@
-use Rattle.std.proofs.Common.{◌≡◌, ◌⊎◌, ⊎_elim, inl, inr, sym, ap, subst, ◌∙◌}
+use Rattle.std.proofs.Common.{⊎_elim, sym, subst}
 use Rattle.site_disk.specs.State.{Safe}
 use Rattle.site_disk.specs.Causes.{Rose}
 use Rattle.session_desk.specs.Courses.{session}
 use Rattle.session_desk.specs.Headline.{IsMoment, IsSettled}
-use Rattle.session_desk.specs.Opened.{state_of, refusal_course}
-use Rattle.session_desk.proofs.Serving.{opening-moments, serves-moments, serves-all, serves-whole, serves-kept, serves-settled, completes, refuses-all, refuses-moments, untouched-moments, opening-settled, outside, not-site, rose-later, rose-before, no-fault, never-source}
+use Rattle.session_desk.specs.Opened.{state_of}
+use Rattle.session_desk.proofs.Serving.{opening-moments, serves-moments, serves-all, serves-whole, serves-kept, serves-settled, completes, refuses-all, refuses-moments, opening-settled, outside, not-site, rose-later, rose-before, no-fault, never-source}
 use Rattle.session_desk.proofs.serve.serve.Goals as goal
 
 pub returns-in-Ok-clause-answers : goal.returns-in-Ok-clause-answers

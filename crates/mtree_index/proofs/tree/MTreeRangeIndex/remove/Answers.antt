@@ -157,4 +157,3 @@ returns-clause-absent g c =
     let stays = λ (none : shrunk_from dist (most (length v)) c.args.number v (length v) t.height root ≡ None). let is : ◌≡◌ {A = Result (Bool × Option Node × ℕ) AllocError} (Ok (false, root, t.height)) (Ok (found, r, h)) = sym (c.shrink.ensures.absent none) ∙ c.in_ok-found.was in same_parts found root r t.height h is in
     let d = call_done dist most t c.args.self.now c.self.view_is c.self.invariant c.args.number v c.requires.width bytes laws tells root c.take-root.ensures.value found h r c.in_ok-found.ensures.is (λ none. (stays none).1) in
     λ no. let same = stays (call_absent dist most t c.args.self.now c.self.view_is c.self.invariant c.args.number v c.requires.width bytes laws tells root c.take-root.ensures.value no) in (ap Ok same.0, (ap (λ (j : ℕ). whole t.width j r) same.1.0 ∙ ap (λ (x : Option Node). whole t.width t.height x) (same.1.1 ∙ c.take-root.ensures.value)) ∙ c.self.view_is)
-

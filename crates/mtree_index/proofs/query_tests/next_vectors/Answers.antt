@@ -1,0 +1,13 @@
+use Rattle.std.proofs.Common.{◌≡◌, ℕ, List, ◌++◌, ◌∷◌, [], length, ap, sym, subst, arith, length-append}
+use Rattle.std.specs.List.{AllByRecursion}
+use Rattle.mtree_index.proofs.Places.{all_append}
+use Rattle.mtree_index.proofs.query_tests.next_vectors.Goals as goal
+
+pub loop-preserved : goal.loop-preserved
+loop-preserved c =
+    let P : List ℕ → Type 0 = λ x. length x ≡ 2 in
+    let items = c.in_ok-push.ensures.items in
+    record {
+      count = omega (arith, ap length items, length-append c.loop.vectors.items (c.in_ok-vector.vector ∷ []), c.loop.invariant.count);
+      widths = subst (AllByRecursion P) (sym items) (all_append P c.loop.vectors.items (c.in_ok-vector.vector ∷ []) c.loop.invariant.widths (c.in_ok-vector.ensures, tt));
+    }
