@@ -57,7 +57,8 @@ impl<M: Metric> Model for Warehouse<M> {
 }
 
 impl<M: Metric> Warehouse<M> {
-    /// A stored warehouse, as its pages have it.
+    /// A stored warehouse: the records of its pages, with their marks made anew. A refusal other than want
+    /// of memory is the one that the pages have. The metric is to be that of the store.
     pub fn load<L: Ledger>(
         alloc: Global,
         pages: Pages,
@@ -80,7 +81,11 @@ impl<M: Metric> Warehouse<M> {
         })
     }
 
-    /// Takes a batch of at most 67,108,864 bytes as one step.
+    /// Takes a batch of at most 67,108,864 bytes as one step, and appends its receipt to `out`.
+    ///
+    /// Refusals other than `SiteFault` and `Memory` are decided before anything is changed, and leave all
+    /// as it was. After those two the warehouse has failed: after `SiteFault` the store has the batch
+    /// wholly or not at all, after `Memory` not at all.
     pub fn apply<T: Site, L: Ledger>(
         &mut self,
         site: &mut T,
@@ -183,12 +188,14 @@ impl<M: Metric> Warehouse<M> {
         self.stored
     }
 
+    /// The parameters of its store.
     pub fn params(&self) -> Params
         ensures { values_of result ≡ self.now.values }
     {
         self.state.head.params
     }
 
+    /// The records that are present.
     pub fn records(&self) -> &Records
         ensures vectors { result.now.vectors ≡ self.now.rows }
         ensures width { self.now.failed ≡ false → result.now.width ≡ width_of self.now.values.metric self.now.values.dim }
