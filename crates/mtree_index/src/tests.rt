@@ -40,7 +40,26 @@ fn insert_next<L: Ledger>(
     tree.insert(number, vector, steps)
 }
 
-/// The tree of the first vectors of the sequence.
+// The tree of the first vectors of the sequence.
+fn grow<L: Ledger>(
+    alloc: Global,
+    count: u32,
+    multiplier: u32,
+    steps: &mut Steps<L>,
+) -> Result<MTree<L1>, AllocError>
+    requires count { count < 1000 }
+    ensures width { IfOk result (λ tree. tree.width ≡ 2) }
+{
+    let mut tree: MTree<L1> = MTree::empty(alloc, 2);
+    let mut state = 1;
+    for number in 1..count + 1 {
+        let vector = next_vector(alloc, &mut state, multiplier)?;
+        insert_next(&mut tree, number, &vector, steps)?;
+    }
+    Ok(tree)
+}
+
+/// The same, with a count of its own.
 pub fn grown<L: Ledger>(
     alloc: Global,
     count: u32,
@@ -54,13 +73,7 @@ pub fn grown<L: Ledger>(
     ensures { IfOk result (λ t. t.width ≡ 2) }
 {
     let mut steps = Steps::<L>::new(blank);
-    let mut tree: MTree<L1> = MTree::empty(alloc, 2);
-    let mut state = 1;
-    for number in 1..count + 1 {
-        let vector = next_vector(alloc, &mut state, multiplier)?;
-        insert_next(&mut tree, number, &vector, &mut steps)?;
-    }
-    Ok(tree)
+    grow(alloc, count, multiplier, &mut steps)
 }
 
 fn show_leaf(entry: &LeafEntry, out: &mut Vec<u32>) -> Result<(), AllocError> {
@@ -184,7 +197,7 @@ fn remove_some<L: Ledger>(
     requires few { range.1 < 1000 }
     requires factor { order.0 < 1000 }
     requires some { 0 < order.1 }
-    ensures width { tree.new.width ≡ 2 }
+    ensures width { OnOk result (tree.new.width ≡ 2) }
 {
     let (first, last) = range;
     let (factor, modulus) = order;
@@ -215,7 +228,7 @@ fn digest(list: &[u32]) -> u32 {
     value
 }
 
-// Whether a removal of the numbers from one to another leaves a tree of this height, length and digest.
+// Whether removals leave a tree of this height, length and digest.
 fn leaves_the_tree<L: Ledger>(
     alloc: Global,
     tree: &mut MTree<L1>,
@@ -227,35 +240,50 @@ fn leaves_the_tree<L: Ledger>(
     requires width { tree.old.width ≡ 2 }
     requires few { range.1 < 1000 }
     requires some { 0 < modulus }
-    ensures width { tree.new.width ≡ 2 }
+    ensures width { OnOk result (tree.new.width ≡ 2) }
 {
-    let (first, last) = range;
     let (height, length, sum) = row;
     let found = remove_some(alloc, tree, range, (167, modulus), 1664525, steps)?;
     let list = list_of(alloc, tree)?;
-    Ok(
-        found == last.wrapping_sub(first).wrapping_add(1)
-            && tree.height() == height
-            && list.len() == length
-            && digest(&list) == sum,
-    )
+    let wanted = range.1.wrapping_sub(range.0).wrapping_add(1);
+    let same = tree.height() == height && list.len() == length && digest(&list) == sum;
+    Ok(same && found == wanted)
+}
+
+// Whether the removals, so many at a time, leave the trees of the rows.
+fn leave_the_trees<L: Ledger>(
+    alloc: Global,
+    count: u32,
+    part: u32,
+    last: u32,
+    rows: &[(u32, usize, u32)],
+    blank: Blank,
+) -> Result<bool, AllocError>
+    requires count { count < 1000 }
+    requires last { last < 1000 }
+    requires name { blank.name ≡ L.name }
+    requires parts { blank.parts ≡ L.parts }
+    requires some { 0 < blank.parts }
+{
+    let mut steps = Steps::<L>::new(blank);
+    let mut tree = grow(alloc, count, 1664525, &mut steps)?;
+    let mut done = 0u32;
+    for row in rows {
+        let range = (done.wrapping_add(1), done.wrapping_add(part).min(last));
+        if !leaves_the_tree(alloc, &mut tree, range, count + 1, *row, &mut steps)? {
+            return Ok(false);
+        }
+        done = range.1;
+    }
+    Ok(true)
 }
 
 #[test]
 fn removals_leave_the_trees_that_the_rules_give(rt: HostRuntime) -> Result<(), Fail> {
-    let mut steps = Steps::<Brand>::new(Blank::new(1));
-    let mut tree = grown::<Brand>(rt.alloc(), 400, 1664525, Blank::new(1))?;
-    for (i, row) in SHRUNK.iter().enumerate() {
-        let first = 40 * (i as u32) + 1;
-        let range = (first, (first + 39).min(380));
-        assert!(rt; leaves_the_tree(rt.alloc(), &mut tree, range, 401, *row, &mut steps)?);
-    }
-    let mut tree = grown::<Brand>(rt.alloc(), 700, 1664525, Blank::new(1))?;
-    for (i, row) in SHRUNK_HIGH.iter().enumerate() {
-        let first = 100 * (i as u32) + 1;
-        let range = (first, (first + 99).min(690));
-        assert!(rt; leaves_the_tree(rt.alloc(), &mut tree, range, 701, *row, &mut steps)?);
-    }
+    let low = leave_the_trees::<Brand>(rt.alloc(), 400, 40, 380, &SHRUNK, Blank::new(1))?;
+    assert!(rt; low);
+    let high = leave_the_trees::<Brand>(rt.alloc(), 700, 100, 690, &SHRUNK_HIGH, Blank::new(1))?;
+    assert!(rt; high);
     Ok(())
 }
 
@@ -265,35 +293,42 @@ const JOINED: [u32; 29] = [
     30, 0,
 ];
 
+// Whether of these numbers of equal vectors so many are found, and the tree then has this height.
+fn are_found<L: Ledger>(
+    alloc: Global,
+    tree: &mut MTree<L1>,
+    range: (u32, u32),
+    found: u32,
+    height: u32,
+    steps: &mut Steps<L>,
+) -> Result<bool, AllocError>
+    requires width { tree.old.width ≡ 2 }
+    requires few { range.1 < 1000 }
+    ensures width { OnOk result (tree.new.width ≡ 2) }
+{
+    let removed = remove_some(alloc, tree, range, (1, 401), 0, steps)?;
+    Ok(removed == found && tree.height() == height)
+}
+
+fn equal_vectors_go<L: Ledger>(alloc: Global, blank: Blank) -> Result<bool, AllocError>
+    requires name { blank.name ≡ L.name }
+    requires parts { blank.parts ≡ L.parts }
+    requires some { 0 < blank.parts }
+{
+    let mut steps = Steps::<L>::new(blank);
+    let mut tree = grow(alloc, 31, 0, &mut steps)?;
+    let high = are_found(alloc, &mut tree, (1, 17), 17, 2, &mut steps)?;
+    let low = are_found(alloc, &mut tree, (18, 18), 1, 1, &mut steps)?;
+    let list = list_of(alloc, &tree)?;
+    let empty = are_found(alloc, &mut tree, (19, 31), 13, 0, &mut steps)?;
+    let absent = are_found(alloc, &mut tree, (31, 31), 0, 0, &mut steps)?;
+    let rows = list.as_slice() == JOINED.as_slice();
+    Ok(high && low && rows && empty && absent)
+}
+
 #[test]
 fn a_leaf_with_too_few_joins_its_sibling(rt: HostRuntime) -> Result<(), Fail> {
-    let mut steps = Steps::<Brand>::new(Blank::new(1));
-    let mut tree = grown::<Brand>(rt.alloc(), 31, 0, Blank::new(1))?;
-    for (first, last, found, height) in [(1, 17, 17, 2), (18, 18, 1, 1), (18, 18, 0, 1)] {
-        let removed = remove_some(
-            rt.alloc(),
-            &mut tree,
-            (first, last),
-            (1, 401),
-            0,
-            &mut steps,
-        )?;
-        assert_eq!(rt; removed, found);
-        assert_eq!(rt; tree.height(), height);
-    }
-    assert!(rt; list_of(rt.alloc(), &tree)?.as_slice() == JOINED.as_slice());
-    for (first, last, found) in [(19, 31, 13), (31, 31, 0)] {
-        let removed = remove_some(
-            rt.alloc(),
-            &mut tree,
-            (first, last),
-            (1, 401),
-            0,
-            &mut steps,
-        )?;
-        assert_eq!(rt; removed, found);
-        assert_eq!(rt; tree.height(), 0);
-        assert!(rt; tree.root().is_none());
-    }
+    let gone = equal_vectors_go::<Brand>(rt.alloc(), Blank::new(1))?;
+    assert!(rt; gone);
     Ok(())
 }

@@ -3,7 +3,7 @@ use Rattle.std.specs.FinMap as map
 use Rattle.std.specs.Ordering.{nat_cmp}
 use Rattle.mtree_index.specs.Plain.{PlainTree}
 use Rattle.mtree_index.specs.Tree.{contents}
-use Rattle.mtree_index.proofs.tests.grown.Goals as goal
+use Rattle.mtree_index.proofs.tests.grow.Goals as goal
 
 pub loop-number-init : goal.loop-number-init
 loop-number-init g c = record {

@@ -1,7 +1,7 @@
 use Rattle.std.proofs.Common.{◌≡◌, ℕ, ◌<◌, ◌≤◌, None}
 use Rattle.std.specs.FinMap as map
 use Rattle.mtree_index.specs.Tree.{contents}
-use Rattle.mtree_index.proofs.tests.grown.Given as goal
+use Rattle.mtree_index.proofs.tests.grow.Given as goal
 
 abbrev pub invariant-loop-number : goal.invariant-loop-number
 invariant-loop-number g l = record {
