@@ -1,5 +1,5 @@
 -- What records are: a width, and a map from numbers to lists of bytes.
-use Rattle.std.specs.Prelude.{ℕ, List, refl}
+use Rattle.std.specs.Prelude.{◌≡◌, ℕ, List, Some, refl}
 use Rattle.std.specs.List.{AllByRecursion}
 use Rattle.std.specs.Coded.{Coded, code_by, coded×, coded_ℕ, coded_list}
 use Rattle.std.specs.Ordering.{nat_cmp}
@@ -23,3 +23,7 @@ held_code =
 -- each entry has a vector of the width
 abbrev pub AreAll : ℕ → List (ℕ × List ℕ) → Type 0
 AreAll width es = AllByRecursion (λ e. IsVector width e.1) es
+
+-- each vector has the width
+abbrev pub HaveWidth : ℕ → Rows → Type 0
+HaveWidth width rows = (number : ℕ) (v : List ℕ) → map.get rows number ≡ Some v → IsVector width v

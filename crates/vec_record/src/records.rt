@@ -2,7 +2,7 @@ ghost use Rattle.std.specs.Prelude.{◌≡◌, ◌≢◌, length, None, IfOk, If
 ghost use Rattle.std.specs.Option.{option_copied};
 ghost use Rattle.std.specs.FinMap as map;
 ghost use Rattle.vec_record.specs.Vectors.{IsVector, IsWidth};
-ghost use Rattle.vec_record.specs.Held.{Held, AreAll};
+ghost use Rattle.vec_record.specs.Held.{Held, AreAll, HaveWidth};
 
 use crate::numbers::{Number, Numbers};
 use crate::vector::Vector;
@@ -98,5 +98,24 @@ impl Records {
             numbers.push(*number)?;
         }
         Ok(numbers)
+    }
+
+    /// The same records, on the same allocator.
+    pub fn copy(&self) -> Result<Records, AllocError>
+        ensures same { IfOk result (λ r. r ≡ self.now) }
+        ensures width { IsWidth self.now.width }
+        ensures vectors { HaveWidth self.now.width self.now.vectors }
+    {
+        let mut vectors = BTreeMap::new(self.alloc);
+        for key in self.vectors.keys() {
+            if let Some(vector) = self.vectors.get(key) {
+                vectors.insert(*key, vector.copy()?)?;
+            }
+        }
+        Ok(Records {
+            alloc: self.alloc,
+            width: self.width,
+            vectors,
+        })
     }
 }
