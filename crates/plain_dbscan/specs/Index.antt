@@ -1,13 +1,8 @@
 -- What an index holds.
-use Rattle.std.specs.Prelude.{◌≡◌, ℕ, List, Some}
+use Rattle.std.specs.Prelude.{ℕ, List}
 use Rattle.std.specs.FinMap as finite
-use Rattle.vec_record.specs.Vectors.{IsVector}
 use Rattle.vec_record.specs.Held.{Rows}
 use Rattle.plain_dbscan.specs.Marks.{density, near_vector}
-
--- Each vector has this width.
-abbrev pub HaveWidth : ℕ → Rows → Type 0
-HaveWidth width rows = (number : ℕ) (v : List ℕ) → finite.get rows number ≡ Some v → IsVector width v
 
 -- The numbers of the vectors that are at most eps from a vector, rising.
 abbrev pub near : (List ℕ → List ℕ → ℕ) → Rows → List ℕ → ℕ → List ℕ

@@ -2,7 +2,8 @@ ghost use Rattle.std.specs.Prelude.{◌≡◌, ℕ, ◌+◌, ◌<◌, ◌≤◌,
 ghost use Rattle.std.specs.FinMap as map;
 ghost use Rattle.vec_record.specs.Vectors.{IsWidth};
 ghost use Rattle.vec_record.specs.Held.{Rows};
-ghost use Rattle.plain_dbscan.specs.Index.{HaveWidth, near};
+ghost use Rattle.vec_record.specs.Held.{HaveWidth};
+ghost use Rattle.plain_dbscan.specs.Index.{near};
 
 use std::alloc::AllocError;
 use std::sync::ledger::Ledger;
