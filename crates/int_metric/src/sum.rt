@@ -1,4 +1,4 @@
-ghost use Rattle.std.specs.Prelude.{◌≡◌, ◌*◌, ◌≤◌, length, refl};
+ghost use Rattle.std.specs.Prelude.{◌≡◌, ◌+◌, ◌*◌, ◌<◌, ◌≤◌, length, refl};
 ghost use Rattle.vec_record.specs.Distance.{sum_apart};
 ghost use Rattle.vec_record.specs.declared.kind.MetricKind.TheVariants.{L1 as sum_kind};
 ghost use Rattle.int_metric.specs.SumLaws.{sum_identity, sum_symmetry, sum_triangle, sum_bound};
@@ -45,6 +45,65 @@ fn sum_of_differences(a: &[u8], b: &[u8]) -> u32
     requires same { length a.now ≡ length b.now }
     requires small { length a.now ≤ 512 }
     ensures { result ≡ sum_apart a.now b.now }
+{
+    // The same bytes, now with the length of `a`, so that the compiler tests one length in place of two.
+    let b = &b[..a.len()];
+    let (blocks, a, b) = sum_of_blocks::<32>(a, b);
+    let (half, a, b) = sum_of_one_block::<16>(a, b);
+    let (quarter, a, b) = sum_of_one_block::<8>(a, b);
+    blocks + half + quarter + sum_of_bytes(a, b)
+}
+
+// The sum over the whole blocks of N bytes, and what is left of both. The compiler has a few vector
+// instructions for a block whose length it knows, and a slow loop for any other.
+#[inline]
+fn sum_of_blocks<'a, 'b, const N: usize>(
+    mut a: &'a [u8],
+    mut b: &'b [u8],
+) -> (u32, &'a [u8], &'b [u8])
+    requires some { 0 < N }
+    requires few { N ≤ 512 }
+    requires same { length a.now ≡ length b.now }
+    requires small { length a.now ≤ 512 }
+    ensures all { result.0 + sum_apart result.1.now result.2.now ≡ sum_apart a.now b.now }
+    ensures same { length result.1.now ≡ length result.2.now }
+    ensures small { result.0 + 255 * length result.1.now ≤ 255 * length a.now }
+{
+    let mut total = 0;
+    while let (Some((x, after_x)), Some((y, after_y))) = (
+        a.split_first_chunk::<N>(),
+        b.split_first_chunk::<N>(),
+    ) {
+        total += sum_of_bytes(x, y);
+        a = after_x;
+        b = after_y;
+    }
+    (total, a, b)
+}
+
+// The same of the first block alone, or 0 where there is none. Without a loop the compiler knows that
+// there is at most one.
+#[inline]
+fn sum_of_one_block<'a, 'b, const N: usize>(a: &'a [u8], b: &'b [u8]) -> (u32, &'a [u8], &'b [u8])
+    requires few { N ≤ 512 }
+    requires same { length a.now ≡ length b.now }
+    requires small { length a.now ≤ 512 }
+    ensures all { result.0 + sum_apart result.1.now result.2.now ≡ sum_apart a.now b.now }
+    ensures same { length result.1.now ≡ length result.2.now }
+    ensures small { result.0 + 255 * length result.1.now ≤ 255 * length a.now }
+{
+    match (a.split_first_chunk::<N>(), b.split_first_chunk::<N>()) {
+        (Some((x, after_x)), Some((y, after_y))) => (sum_of_bytes(x, y), after_x, after_y),
+        _ => (0, a, b),
+    }
+}
+
+#[inline]
+fn sum_of_bytes(a: &[u8], b: &[u8]) -> u32
+    requires same { length a.now ≡ length b.now }
+    requires small { length a.now ≤ 512 }
+    ensures is { result ≡ sum_apart a.now b.now }
+    ensures small { result ≤ 255 * length a.now }
 {
     let mut total = 0;
     // Signed, since the compiler makes a faster loop of this than of `abs_diff`.

@@ -2,7 +2,7 @@ use Rattle.std.proofs.Common.{rules, ◌≡◌, length-append, arith}
 use Rattle.std.proofs.lemmas.Int.{ints}
 use Rattle.vec_record.specs.Distance.{apart}
 use Rattle.int_metric.proofs.Pairs.{next_pair}
-use Rattle.int_metric.proofs.sum.sum_of_differences.Goals as goal
+use Rattle.int_metric.proofs.sum.sum_of_bytes.Goals as goal
 
 pub loop-x-preserved : goal.loop-x-preserved
 loop-x-preserved c =
