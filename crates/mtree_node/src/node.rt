@@ -5,9 +5,10 @@ use vec_record::{Number, Vector};
 #[derive(Drop)]
 pub struct LeafEntry {
     pub number: Number,
-    pub vector: Vector,
     /// The distance from the node's routing object, 0 in the root.
     pub parent: u32,
+    // Last, since fields lie in their order: with the two numbers side by side an entry has no gaps.
+    pub vector: Vector,
 }
 
 /// A child of an inner node, with what a search has to know of it.
