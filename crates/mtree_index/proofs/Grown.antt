@@ -62,10 +62,10 @@ module _ (dist : List ℕ → List ℕ → ℕ) (w greatest : ℕ) where
   pub held_vectors : (laws : Lawful dist w greatest) (h : ℕ) (root : Option Node) → IsRoot dist w greatest h root → (q : ℕ) (v : List ℕ) → get (from_entries {R = nat_cmp} (map record_of (leaves_of h root))) q ≡ Some v → IsVector w v
   held_vectors laws h root r q v e = vector_there q v (leaves_of h root) (root_vectors laws h root r) (sym (get-from_entries nat_cmp_total (map record_of (leaves_of h root)) q) ∙ e)
 
-  -- a tree with room is low
-  pub low_root : (h : ℕ) (root : Option Node) → IsRoot dist w greatest h root → len (from_entries {R = nat_cmp} (map record_of (leaves_of h root))) < 200000 → h ≤ 6
-  low_root h None r room = omega (arith, r)
-  low_root h (Some n) r room = low_tree dist w greatest h n r.node (omega (arith, room, len_is (leaves h n) r.distinct))
+  -- a tree of few vectors is low
+  low_root : (h : ℕ) (root : Option Node) → IsRoot dist w greatest h root → length (leaves_of h root) ≤ 200000 → h ≤ 6
+  low_root h None r few = omega (arith, r)
+  low_root h (Some n) r few = low_tree dist w greatest h n r.node few
 
   module _ (laws : Lawful dist w greatest) (number : ℕ) (v : List ℕ) (iv : IsVector w v) where
     rooted_made : (h : ℕ) (n : Node) (tree : IsTree dist w greatest h n) → at number (leaves h n) ≡ None → (o : Outcome) → IsKept dist w greatest laws number v iv h None (leaves h n) o → Made number v (leaves h n) (rooted w h o)
@@ -124,7 +124,7 @@ insert_keeps dist most t lawful laws number v iv absent room after is =
     let whole : IsLawful dist most new = record {
       width = subst IsWidth (sym width) lawful.width;
       root = subst (λ (w : ℕ). IsRoot dist w (most w) new.height new.root) (sym width) made.0;
-      few = one_more (leaves_of new.height new.root) (contents t) number v (root_distinct dist t.width (most t.width) new.height new.root made.0) made.1 room;
+      low = low_root dist new.width (most new.width) new.height new.root (subst (λ (w : ℕ). IsRoot dist w (most w) new.height new.root) (sym width) made.0) (one_more (leaves_of new.height new.root) (contents t) number v (root_distinct dist t.width (most t.width) new.height new.root made.0) made.1 room);
     } in (
       subst (IsLawful dist most) (sym is) whole,
       record { tree = is; width = ap (λ (x : PlainTree). x.width) is ∙ width; contents = ap contents is ∙ made.1 },

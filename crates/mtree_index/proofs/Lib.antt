@@ -22,3 +22,4 @@ pub mod Shrunk
 pub mod Small
 pub mod Opening
 pub mod Found
+mod Shapes

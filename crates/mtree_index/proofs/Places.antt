@@ -2,6 +2,7 @@
 use Rattle.std.proofs.Common.{◌≡◌, ℕ, zero, suc, ◌+◌, ◌<◌, ◌≤◌, List, [], ◌∷◌, ◌++◌, length, map, slice_index, slice_set, insert, Some, refl, sym, ap, subst, ◌∙◌, arith, length-append}
 use Rattle.std.specs.List.{slice_get, AllByRecursion}
 use Rattle.mtree_index.specs.Insertion.{replaced_at}
+pub use Rattle.mtree_node.proofs.Sizes.{all_weaker}
 
 module _ {A : Type 0} where
   -- one element stays
@@ -61,7 +62,3 @@ pub get_index : {A : Type 0} (f : A → ℕ) (xs : List A) (at : ℕ) (x : A) �
 get_index f [] at x g = cc
 get_index f (y ∷ ys) zero x g = let same : y ≡ x = cc in ap f same
 get_index f (y ∷ ys) (suc at) x g = get_index f ys at x g
-
-pub all_weaker : {A : Type 0} (P Q : A → Type 0) (xs : List A) → ((x : A) → P x → Q x) → AllByRecursion P xs → AllByRecursion Q xs
-all_weaker P Q [] k p = tt
-all_weaker P Q (x ∷ xs) k p = (k x p.0, all_weaker P Q xs k p.1)

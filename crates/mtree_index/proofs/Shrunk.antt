@@ -22,7 +22,6 @@ use Rattle.mtree_index.specs.Removal.{removed}
 use Rattle.mtree_index.specs.Joinable.{given}
 use Rattle.mtree_index.specs.Shrinking.{as_root, as_root_in, lowered, lowered_in, lowered_from, shrunk_from, after_removal, IsShrunk}
 use Rattle.mtree_index.proofs.Distinct.{under, one, at, here, other, ties, none_total, total_none, some_total, none_or_some, same_by_all}
-use Rattle.mtree_index.proofs.Height.{low_tree}
 use Rattle.mtree_index.proofs.Joins.{IsLoose, IsLooseIn, leaf_total, inner_leaves}
 use Rattle.mtree_index.proofs.Kept.{IsEntry, leaves_leaf, leaves_inner}
 use Rattle.mtree_index.proofs.Lost.{Telling, IsLost, same, lost}
@@ -147,7 +146,6 @@ module _ (dist : List ℕ → List ℕ → ℕ) (w greatest : ℕ) (laws : Lawfu
     Shrinks h root None = at number (leaves_of h root) ≡ Some v → ⊥
     Shrinks h root (Some t) =
         (at number (leaves_of h root) ≡ Some v) × IsRoot dist w greatest t.height t.root × (from_entries {R = nat_cmp} (map record_of (leaves_of t.height t.root)) ≡ remove (from_entries (map record_of (leaves_of h root))) number)
-        × (length (leaves_of t.height t.root) ≤ length (leaves_of h root))
 
     hit : same dist w greatest laws tells number v iv v ≡ 1
     hit = elim (eqb_tells (dist v v) 0) [ inl t ↦ rw t.0 refl | inr f ↦ absurd (f.1 ((tells.identity v v iv iv).1 refl)) ]
@@ -162,7 +160,6 @@ module _ (dist : List ℕ → List ℕ → ℕ) (w greatest : ℕ) (laws : Lawfu
           held_before number v (leaves h n) new loses tree.distinct,
           with_distinct t.height t.root well.0 (distinct_after number v (leaves h n) new loses tree.distinct),
           contents_after number v (leaves h n) new loses tree.distinct,
-          omega (arith, loses (λ n v. 1), total_count new, total_count (leaves h n)),
         )
 
     pub shrunk_root : (h : ℕ) (root : Option Node) → IsRoot dist w greatest h root → Shrinks h root (shrunk_from dist greatest number v w h root)
@@ -187,6 +184,23 @@ shrunk_width : (dist : List ℕ → List ℕ → ℕ) (greatest number : ℕ) (v
 shrunk_width dist greatest number v w h None after is = cc
 shrunk_width dist greatest number v w h (Some n) after is = lowered_width w h (removed dist greatest number v h None n) after is
 
+lowered_in_height : (w h : ℕ) (n : Node) (layer : Layer) → (lowered_in w h n layer).height ≤ h
+lowered_in_height w h n (Node-F.Leaf tag []) = omega arith
+lowered_in_height w h n (Node-F.Leaf tag (e ∷ es)) = omega arith
+lowered_in_height w h n (Node-F.Inner tag []) = omega arith
+lowered_in_height w h n (Node-F.Inner tag (e ∷ [])) = omega arith
+lowered_in_height w h n (Node-F.Inner tag (e ∷ g ∷ es)) = omega arith
+
+lowered_height : (w h : ℕ) (o : Option Node) (after : PlainTree) → Some after ≡ lowered_from w h o → after.height ≤ h
+lowered_height w h None after is = cc
+lowered_height w h (Some n) after is =
+    let same : after ≡ lowered w h n = cc in omega (arith, ap (λ (t : PlainTree). t.height) same, lowered_in_height w h n (out-Node n))
+
+-- a removal makes no tree higher
+shrunk_height : (dist : List ℕ → List ℕ → ℕ) (greatest number : ℕ) (v : List ℕ) (w h : ℕ) (root : Option Node) (after : PlainTree) → Some after ≡ shrunk_from dist greatest number v w h root → after.height ≤ h
+shrunk_height dist greatest number v w h None after is = cc
+shrunk_height dist greatest number v w h (Some n) after is = lowered_height w h (removed dist greatest number v h None n) after is
+
 module _ (dist : List ℕ → List ℕ → ℕ) (most : ℕ → ℕ) (t : PlainTree) (lawful : IsLawful dist most t) (number : ℕ) (v : List ℕ) (iv : IsVector t.width v) (laws : Lawful dist t.width (most t.width)) (tells : Telling dist t.width) where
   abbrev Means : Option PlainTree → Type 0
   Means o = Shrinks dist t.width (most t.width) laws tells number v iv t.height t.root o
@@ -209,7 +223,7 @@ module _ (dist : List ℕ → List ℕ → ℕ) (most : ℕ → ℕ) (t : PlainT
         record {
           width = subst IsWidth (sym width) lawful.width;
           root = subst (λ (w : ℕ). IsRoot dist w (most w) after.height after.root) (sym width) here.1;
-          few = omega (arith, here.3, lawful.few);
+          low = omega (arith, shrunk_height dist (most t.width) number v t.width t.height t.root after is, lawful.low);
         },
         record { tree = is; width = width; contents = here.2 },
       )
@@ -234,14 +248,6 @@ module _ (dist : List ℕ → List ℕ → ℕ) (most : ℕ → ℕ) (t : PlainT
         present = (λ y. cc, λ there. absurd (none_absent (sym is) there));
         shrunk = λ y. cc;
       }
-
-low_in : (dist : List ℕ → List ℕ → ℕ) (w greatest h : ℕ) (root : Option Node) → IsRoot dist w greatest h root → length (leaves_of h root) ≤ 200000 → h ≤ 6
-low_in dist w greatest h None r few = omega (arith, r)
-low_in dist w greatest h (Some n) r few = low_tree dist w greatest h n r.node few
-
--- the tree is low
-pub low_height : (dist : List ℕ → List ℕ → ℕ) (most : ℕ → ℕ) (t : PlainTree) → IsLawful dist most t → t.height ≤ 6
-low_height dist most t lawful = low_in dist t.width (most t.width) t.height t.root lawful.root lawful.few
 
 -- ---- a call that took the root out of its tree
 

@@ -1,5 +1,5 @@
 -- The trees that the tree's type keeps, what they hold and cost, and the tree after an insertion.
-use Rattle.std.specs.Prelude.{◌≡◌, ℕ, ◌+◌, ◌≤◌, length, List, [], ◌∷◌, map, Option, Some, None}
+use Rattle.std.specs.Prelude.{◌≡◌, ℕ, ◌+◌, ◌≤◌, List, [], ◌∷◌, map, Option, Some, None}
 use Rattle.std.specs.FinMap as finite
 use Rattle.vec_record.specs.Vectors.{IsWidth}
 use Rattle.vec_record.specs.Held.{Rows}
@@ -37,11 +37,11 @@ abbrev pub IsRoot : (List ℕ → List ℕ → ℕ) → ℕ → ℕ → ℕ → 
 IsRoot dist width greatest h None = h ≡ 0
 IsRoot dist width greatest h (Some n) = IsTree dist width greatest h n
 
--- the trees that the type keeps: a lawful width, a well-formed root, and at most 200,000 vectors
+-- the trees that the type keeps: a lawful width, a well-formed root, and at most 6 levels
 pub record IsLawful (dist : List ℕ → List ℕ → ℕ) (most : ℕ → ℕ) (t : PlainTree) : Type 0 where
   pub width : IsWidth t.width
   pub root : IsRoot dist t.width (most t.width) t.height t.root
-  pub few : length (leaves_of t.height t.root) ≤ 200000
+  pub low : t.height ≤ 6
 
 -- the tree whose root had this outcome: a root that was split gets a new root above it
 abbrev pub rooted : ℕ → ℕ → Outcome → PlainTree

@@ -20,6 +20,8 @@ mod query;
 mod query_tests;
 mod removal;
 mod settle;
+#[cfg(test)]
+mod shape_tests;
 mod shrinking;
 mod split;
 #[cfg(test)]

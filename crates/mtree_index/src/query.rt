@@ -3,12 +3,15 @@ ghost use Rattle.std.specs.List.{AllByRecursion, flat_map};
 ghost use Rattle.vec_record.specs.Vectors.{IsVector, IsWidth};
 ghost use Rattle.mtree_node.specs.declared.node.InnerEntry.{out-InnerEntry};
 ghost use Rattle.mtree_node.specs.Cost.{is_skipped, leaf_cost, entry_cost, cost};
-ghost use Rattle.mtree_index.specs.Found.{IsShaped, IsEntryOver, leaf_found, entry_found, found};
+ghost use Rattle.mtree_index.specs.Found.{IsShaped, IsEntryOver, number_within, leaf_found, entry_found, found};
 
 use mtree_node::{InnerEntry, LeafEntry, Node};
 use std::alloc::AllocError;
 use std::sync::ledger::Ledger;
 use vec_record::{Metric, Number, Steps, Vector};
+
+// A leaf of the tree has at most 30 entries, so one group is enough for it.
+const GROUP: usize = 32;
 
 /// The first pruning test: by the distances to the node's object an entry can't be within reach.
 pub fn is_skipped(to_object: Option<u32>, reach: u64, parent: u32) -> bool
@@ -20,9 +23,9 @@ pub fn is_skipped(to_object: Option<u32>, reach: u64, parent: u32) -> bool
     }
 }
 
-fn look_at_leaf<M: Metric, L: Ledger>(
+// Adds the number of an entry that the first pruning test leaves, if its vector is within the radius.
+fn look_at_vector<M: Metric, L: Ledger>(
     entry: &LeafEntry,
-    to_object: Option<u32>,
     centre: &Vector,
     radius: u32,
     out: &mut Vec<Number>,
@@ -30,12 +33,9 @@ fn look_at_leaf<M: Metric, L: Ledger>(
 ) -> Result<(), AllocError>
     requires width { IsWidth (length centre.now) }
     requires vector { IsVector (length centre.now) entry.now.vector }
-    ensures found { OnOk result (out.new.items ≡ out.old.items ++ leaf_found M.dist centre.now radius to_object entry.now) }
-    ensures counted { steps.new ≡ steps.old + leaf_cost M.dist centre.now radius to_object entry.now }
+    ensures found { OnOk result (out.new.items ≡ out.old.items ++ number_within M.dist centre.now radius entry.now) }
+    ensures counted { steps.new ≡ steps.old + 1 }
 {
-    if is_skipped(to_object, u64::from(radius), entry.parent) {
-        return Ok(());
-    }
     if M::distance(centre, &entry.vector, steps) <= radius {
         out.push(entry.number)?;
     }
@@ -70,6 +70,38 @@ fn look_at_entry<M: Metric, L: Ledger>(
     search::<M, L>(below, height, Some(distance), centre, radius, out, steps)
 }
 
+// First tests all entries, without a branch, and then computes the distances of those that are left: a
+// branch on each test would be guessed wrong too often, and each wrong guess would wait for memory.
+fn look_at_group<M: Metric, L: Ledger>(
+    entries: &[LeafEntry],
+    to_object: Option<u32>,
+    centre: &Vector,
+    radius: u32,
+    out: &mut Vec<Number>,
+    steps: &mut Steps<L>,
+) -> Result<(), AllocError>
+    requires few { length entries.now ≤ 32 }
+    requires width { IsWidth (length centre.now) }
+    requires vectors { AllByRecursion (λ e. IsVector (length centre.now) e.vector) entries.now }
+    ensures found { OnOk result (out.new.items ≡ out.old.items ++ flat_map (leaf_found M.dist centre.now radius to_object) entries.now) }
+    ensures counted { OnOk result (steps.new ≡ steps.old + sum_by (leaf_cost M.dist centre.now radius to_object) entries.now) }
+    ensures at_most { steps.new ≤ steps.old + sum_by (leaf_cost M.dist centre.now radius to_object) entries.now }
+{
+    let Some(first) = entries.first() else {
+        return Ok(());
+    };
+    let mut left = [first; GROUP];
+    let mut count = 0;
+    for entry in entries {
+        left[count] = entry;
+        count += usize::from(!is_skipped(to_object, u64::from(radius), entry.parent));
+    }
+    for entry in &left[..count] {
+        look_at_vector::<M, L>(entry, centre, radius, out, steps)?;
+    }
+    Ok(())
+}
+
 fn look_at_leaves<M: Metric, L: Ledger>(
     entries: &[LeafEntry],
     to_object: Option<u32>,
@@ -84,10 +116,13 @@ fn look_at_leaves<M: Metric, L: Ledger>(
     ensures counted { OnOk result (steps.new ≡ steps.old + sum_by (leaf_cost M.dist centre.now radius to_object) entries.now) }
     ensures at_most { steps.new ≤ steps.old + sum_by (leaf_cost M.dist centre.now radius to_object) entries.now }
 {
-    for entry in entries {
-        look_at_leaf::<M, L>(entry, to_object, centre, radius, out, steps)?;
+    let mut rest = entries;
+    while rest.len() > GROUP {
+        let (group, after) = rest.split_at(GROUP);
+        look_at_group::<M, L>(group, to_object, centre, radius, out, steps)?;
+        rest = after;
     }
-    Ok(())
+    look_at_group::<M, L>(rest, to_object, centre, radius, out, steps)
 }
 
 #[cycle(search)]

@@ -23,7 +23,8 @@ pub fn next_vector(alloc: Global, state: &mut u32, multiplier: u32) -> Result<Ve
     Vector::from_slice(alloc, &[(first >> 27) as u8, (second >> 27) as u8])
 }
 
-fn insert_next<L: Ledger>(
+/// Inserts the next number of a sequence.
+pub fn insert_next<L: Ledger>(
     tree: &mut MTree<L1>,
     number: u32,
     vector: &Vector,
@@ -34,6 +35,7 @@ fn insert_next<L: Ledger>(
     requires fresh { (q : ℕ) → number ≤ q → map.get (contents tree.old) q ≡ None }
     requires few { map.len (contents tree.old) < number }
     ensures width { tree.new.width ≡ tree.old.width }
+    ensures contents { OnOk result (contents tree.new ≡ map.insert (contents tree.old) number vector.now) }
     ensures fresh { OnOk result ((q : ℕ) → number + 1 ≤ q → map.get (contents tree.new) q ≡ None) }
     ensures few { OnOk result (map.len (contents tree.new) < number + 1) }
 {

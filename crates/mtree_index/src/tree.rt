@@ -1,7 +1,13 @@
-ghost use Rattle.std.specs.Prelude.{◌≡◌, ℕ, ◌+◌, ◌<◌, ◌≤◌, ◌↔◌, length, None, Some, IfOk, IfSome, OnOk, [], ◌∷◌};
-ghost use Rattle.std.specs.Option.{option_copied};
+ghost use Rattle.std.specs.Prelude.{◌≡◌, ℕ, ◌+◌, ◌*◌, ◌<◌, ◌≤◌, ◌↔◌, List, Option, length, None, Some, Err, IfOk, IfSome, OnOk, [], ◌∷◌};
+ghost use Rattle.std.specs.FinMap as map;
+ghost use Rattle.std.specs.Option.{option_copied, option_map};
 ghost use Rattle.vec_record.specs.Vectors.{IsWidth, AreBytes};
-ghost use Rattle.mtree_node.specs.Tree.{IsTree};
+ghost use Rattle.mtree_node.specs.declared.node.Node.{Node as PlainNode};
+ghost use Rattle.mtree_node.specs.declared.shape.BadPlace.{BadPlace as Place};
+ghost use Rattle.mtree_node.specs.declared.shape.BuildFault.TheVariants.{Bad};
+ghost use Rattle.mtree_node.specs.Preorder.{size, retagged};
+ghost use Rattle.mtree_node.specs.Tree.{IsLeveled, IsTree};
+ghost use Rattle.mtree_node.specs.Walk.{first_failing, IsTreeOf, CanBeBuilt};
 ghost use Rattle.mtree_index.specs.Found.{numbers_within};
 ghost use Rattle.mtree_index.specs.Tree.{contents, leaves_of, query_cost, root_cost, IsRoot, IsGrown, grown_from};
 ghost use Rattle.mtree_index.specs.Shrinking.{IsShrunk};
@@ -10,13 +16,13 @@ use crate::insertion::insert_below;
 use crate::query::search;
 use crate::settle::Pair;
 use crate::shrinking::shrink;
-use items::Items;
-use mtree_node::{LeafEntry, Node};
+use items::{Boxed, Items};
+use mtree_node::{BuildFault, LeafEntry, Node, Shapes, build};
 use plain_dbscan::RangeIndex;
 use std::alloc::{AllocError, Global};
 use std::marker::{Model, PhantomData};
 use std::sync::ledger::Ledger;
-use vec_record::{Metric, Number, Numbers, Steps, Vector};
+use vec_record::{Metric, Number, Numbers, Records, Steps, Vector};
 
 /// An M-tree: vectors of one width under distinct numbers, searched by distance.
 ///
@@ -60,8 +66,9 @@ impl<M: Metric> MTree<M> {
         }
     }
 
-    /// The root, none exactly where the tree is empty.
+    /// The root, none exactly where the tree is empty. A tree has at most 6 levels.
     pub fn root(&self) -> Option<&Node>
+        ensures low { self.now.height ≤ 6 }
         ensures is { option_copied result ≡ self.now.root }
         ensures tree { IfSome result (λ n. IsTree M.dist self.now.width (M.most self.now.width) self.now.height n.now) }
     {
@@ -74,6 +81,51 @@ impl<M: Metric> MTree<M> {
         ensures empty { (result ≡ 0) ↔ (self.now.root ≡ None) }
     {
         self.height
+    }
+
+    /// The tree of a height whose nodes in preorder are the shapes, over the records, with their width. What
+    /// it needs, what it answers and what it counts is what [`mtree_node::build`] does.
+    ///
+    /// # Errors
+    ///
+    /// `Bad` with the first place where the list isn't the preorder of a tree of this height over exactly
+    /// these records, `Memory` on want of memory.
+    pub fn from_shapes<L: Ledger>(
+        alloc: Global,
+        height: u32,
+        shapes: &Shapes,
+        records: &Records,
+        steps: &mut Steps<L>,
+    ) -> Result<MTree<M>, BuildFault>
+        requires { CanBeBuilt records.now.width (M.most records.now.width) height shapes.now records.now.vectors }
+        ensures tree { IfOk result (λ t. IsTreeOf M.dist records.now.width (M.most records.now.width) height shapes.now records.now.vectors t.root) }
+        ensures only { IfOk result (λ t. (other : Option PlainNode) → IsTreeOf M.dist records.now.width (M.most records.now.width) height shapes.now records.now.vectors other → t.root ≡ other) }
+        ensures size { IfOk result (λ t. (t.width ≡ records.now.width) × (t.height ≡ height)) }
+        ensures contents { IfOk result (λ t. contents t ≡ records.now.vectors) }
+        ensures passes { OnOk result (first_failing M.dist height shapes.now records.now.vectors ≡ None) }
+        ensures bad { (p : Place) → result ≡ Err (Bad p) → first_failing M.dist height shapes.now records.now.vectors ≡ Some p }
+        ensures no_tree { (p : Place) → result ≡ Err (Bad p) → (root : Option PlainNode) → IsTreeOf M.dist records.now.width (M.most records.now.width) height shapes.now records.now.vectors root → ⊥ }
+        ensures counted { steps.new ≤ steps.old + 8 * map.len records.now.vectors }
+    {
+        let width = records.width();
+        let root = build::<M, L>(alloc, height, shapes, records, steps)?;
+        Ok(MTree {
+            alloc,
+            width,
+            height,
+            root: unboxed(root),
+            metric: PhantomData,
+        })
+    }
+
+    /// Sets the tags of the nodes, one for each in preorder. It takes no memory.
+    pub fn retag(&mut self, tags: &[u32])
+        requires tags { IfSome self.old.root (λ n. length tags.now ≡ size self.old.height n) }
+        ensures is { self.new ≡ record self.old { root = option_map (retagged tags.now self.old.height) self.old.root } }
+        ensures contents { contents self.new ≡ contents self.old }
+        ensures cost { (centre : List ℕ) (radius : ℕ) → query_cost M.dist self.new centre radius ≡ query_cost M.dist self.old centre radius }
+    {
+        retag_root(&mut self.root, tags);
     }
 }
 
@@ -140,6 +192,23 @@ impl<M: Metric> RangeIndex<M> for MTree<M> {
         self.root = root;
         Ok(found)
     }
+}
+
+// Sets the tags below a root, if there is one.
+fn retag_root(root: &mut Option<Node>, tags: &[u32])
+    requires leveled { IfSome root.old (λ n. (levels : ℕ) × (levels ≤ 6) × IsLeveled levels n) }
+    requires tags { IfSome root.old (λ n. (levels : ℕ) → IsLeveled levels n → length tags.now ≡ size levels n) }
+    ensures is { (levels : ℕ) → IfSome root.old (IsLeveled levels) → root.new ≡ option_map (retagged tags.now levels) root.old }
+{
+    if let Some(root) = root {
+        mtree_node::retag(root, tags);
+    }
+}
+
+fn unboxed(root: Option<Boxed<Node>>) -> Option<Node>
+    ensures { result ≡ root }
+{
+    root.map(Boxed::into_inner)
 }
 
 // The numbers of a tree within the radius of the centre, in the order of the leaves.

@@ -1,4 +1,4 @@
-use Rattle.std.proofs.Common.{◌≡◌, ℕ, ◌-◌, min, length, ap, sym, ◌∙◌}
+use Rattle.std.proofs.Common.{◌-◌, length}
 use Rattle.mtree_index.proofs.Opened.{shaped_level, cost_inner}
 use Rattle.mtree_index.proofs.query_tests.+cost.Goals as goal
 

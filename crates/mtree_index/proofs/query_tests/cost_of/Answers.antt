@@ -1,4 +1,4 @@
-use Rattle.std.proofs.Common.{◌≡◌, ℕ, List, length, None, subst, sym, ◌∙◌}
+use Rattle.std.proofs.Common.{◌≡◌, ℕ, List, length, None, subst, sym}
 use Rattle.mtree_node.specs.declared.node.Node.{Node}
 use Rattle.mtree_node.specs.Tree.{IsTree}
 use Rattle.mtree_index.specs.Found.{IsShaped}

@@ -1,9 +1,9 @@
-use Rattle.std.proofs.Common.{◌≡◌, ℕ, ◌<◌, List, length, Some, sym, ap, subst, ◌∙◌, arith}
+use Rattle.std.proofs.Common.{◌≡◌, ℕ, List, length, Some, sym, ap, subst, ◌∙◌, arith}
 use Rattle.std.specs.FinMap as map
 use Rattle.vec_record.specs.Vectors.{IsVector, IsWidth}
 use Rattle.mtree_index.specs.Plain.{PlainTree}
 use Rattle.mtree_index.specs.Tree.{contents}
-use Rattle.mtree_index.proofs.Grown.{small_greatest, held_vectors, low_root, call_keeps}
+use Rattle.mtree_index.proofs.Grown.{small_greatest, held_vectors, call_keeps}
 use Rattle.mtree_index.proofs.Parted.{Lawful}
 use Rattle.mtree_index.proofs.tree.MTreeRangeIndex.insert.Given.{Over}
 use Rattle.mtree_index.proofs.tree.MTreeRangeIndex.insert.Goals as goal
@@ -17,11 +17,6 @@ lawful g w v width iv =
       bound = λ a b x y. law.bound w a b width x y;
       small = let top = (law.defined w v v width iv iv).1 in omega (arith, top, small_greatest g.M.Metric.KIND w width.small);
     }
-
-pub grow-requires-clause-low : goal.grow-requires-clause-low
-grow-requires-clause-low g c =
-    low_root g.M.Metric.dist c.self.inside.width (g.M.Metric.most c.self.inside.width) c.self.inside.height c.self.inside.root c.self.invariant.root
-    (subst (λ (t : PlainTree). map.len (contents t) < 200000) (sym c.self.view_is) c.requires.room)
 
 pub returns-in_err-root-clause-vectors : goal.returns-in_err-root-clause-vectors
 returns-in_err-root-clause-vectors g c =

@@ -10,7 +10,7 @@ use Rattle.mtree_index.specs.Tree.{contents, root_cost, query_cost}
 use Rattle.mtree_index.proofs.Grown.{small_greatest, held_vectors}
 use Rattle.mtree_index.proofs.Lost.{Telling}
 use Rattle.mtree_index.proofs.Parted.{Lawful}
-use Rattle.mtree_index.proofs.Shrunk.{whole, call_absent, call_done, low_height}
+use Rattle.mtree_index.proofs.Shrunk.{whole, call_absent, call_done}
 use Rattle.mtree_index.proofs.tree.MTreeRangeIndex.remove.Given.{Over}
 use Rattle.mtree_index.proofs.tree.MTreeRangeIndex.remove.Goals as goal
 
@@ -64,7 +64,7 @@ returns-in_err-found-clause-counted g c =
     let laws = lawful g t.width v c.self.invariant.width in
     let tells = λ (i : IsVector t.width v). telling g t.width c.self.invariant.width in
     let root = c.take-root.result in
-    omega (arith, c.shrink.ensures.counted, low_height dist most t c.self.invariant, ap (λ (x : Option Node). root_cost dist t.height x v 0) c.take-root.ensures.value, ap (λ (x : PlainTree). query_cost dist x v 0) c.self.view_is)
+    omega (arith, c.shrink.ensures.counted, c.self.invariant.low, ap (λ (x : Option Node). root_cost dist t.height x v 0) c.take-root.ensures.value, ap (λ (x : PlainTree). query_cost dist x v 0) c.self.view_is)
 
 pub returns-clause-counted : goal.returns-clause-counted
 returns-clause-counted g c =
@@ -76,7 +76,7 @@ returns-clause-counted g c =
     let laws = lawful g t.width v c.self.invariant.width in
     let tells = λ (i : IsVector t.width v). telling g t.width c.self.invariant.width in
     let root = c.take-root.result in
-    omega (arith, c.shrink.ensures.counted, low_height dist most t c.self.invariant, ap (λ (x : Option Node). root_cost dist t.height x v 0) c.take-root.ensures.value, ap (λ (x : PlainTree). query_cost dist x v 0) c.self.view_is)
+    omega (arith, c.shrink.ensures.counted, c.self.invariant.low, ap (λ (x : Option Node). root_cost dist t.height x v 0) c.take-root.ensures.value, ap (λ (x : PlainTree). query_cost dist x v 0) c.self.view_is)
 
 pub returns-in_err-found-clause-absent : goal.returns-in_err-found-clause-absent
 returns-in_err-found-clause-absent g c =

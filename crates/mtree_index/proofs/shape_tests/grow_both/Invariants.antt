@@ -1,0 +1,13 @@
+use Rattle.std.proofs.Common.{◌≡◌, ℕ, ◌<◌, ◌≤◌, None}
+use Rattle.std.specs.FinMap as map
+use Rattle.mtree_index.specs.Tree.{contents}
+use Rattle.mtree_index.proofs.shape_tests.grow_both.Given as goal
+
+abbrev pub invariant-loop-number : goal.invariant-loop-number
+invariant-loop-number g l = record {
+  width : l.tree.width ≡ 2;
+  records_width : l.records.width ≡ 2;
+  same : contents l.tree ≡ l.records.vectors;
+  fresh : (q : ℕ) → l.number ≤ q → map.get (contents l.tree) q ≡ None;
+  few : map.len (contents l.tree) < l.number;
+}
