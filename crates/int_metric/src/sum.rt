@@ -51,7 +51,20 @@ fn sum_of_differences(a: &[u8], b: &[u8]) -> u32
     let (blocks, a, b) = sum_of_blocks::<32>(a, b);
     let (half, a, b) = sum_of_one_block::<16>(a, b);
     let (quarter, a, b) = sum_of_one_block::<8>(a, b);
-    blocks + half + quarter + sum_of_bytes(a, b)
+    let rest = if a.is_empty() { 0 } else { sum_of_rest(a, b) };
+    blocks + half + quarter + rest
+}
+
+// The sum over the fewer than 8 bytes that are left. Not inlined, so that a width that leaves none need not
+// save the registers of this loop.
+#[inline(never)]
+fn sum_of_rest(a: &[u8], b: &[u8]) -> u32
+    requires same { length a.now ≡ length b.now }
+    requires small { length a.now ≤ 512 }
+    ensures is { result ≡ sum_apart a.now b.now }
+    ensures small { result ≤ 255 * length a.now }
+{
+    sum_of_bytes(a, b)
 }
 
 // The sum over the whole blocks of N bytes, and what is left of both. The compiler has a few vector

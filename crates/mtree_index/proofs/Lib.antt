@@ -1,3 +1,4 @@
+mod AtPlaces
 pub mod Chosen
 pub mod Distinct
 pub mod Exact

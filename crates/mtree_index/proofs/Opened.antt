@@ -1,19 +1,29 @@
 -- What an insertion makes of a node that was opened.
-use Rattle.std.proofs.Common.{◌≡◌, ℕ, zero, suc, ◌-◌, List, [], ◌∷◌, ◌++◌, Option, Some, sum_by, ap, ◌∙◌, arith}
+use Rattle.std.proofs.Common.{◌≡◌, ℕ, zero, suc, ◌-◌, List, [], ◌∷◌, ◌++◌, Option, Some, length, sum_by, ap, subst, ◌∙◌, arith}
 use Rattle.mtree_node.specs.declared.node.LeafEntry.{LeafEntry}
-use Rattle.std.specs.List.{flat_map}
+use Rattle.std.specs.List.{AllByRecursion, flat_map}
 use Rattle.mtree_node.specs.declared.node.InnerEntry.{InnerEntry, out-InnerEntry}
 use Rattle.mtree_node.specs.declared.node.Node.{Node}
 use Rattle.mtree_node.specs.declared.node.Node.TheVariants as node
-use Rattle.mtree_node.specs.Tree.{IsNode}
+use Rattle.mtree_node.specs.Tree.{IsNode, IsNodeIn, IsLeafEntry, leaves}
 use Rattle.mtree_node.specs.Cost.{cost, cost_in, entry_cost}
 use Rattle.mtree_index.specs.Found.{IsShaped, found, found_in, entry_found}
 use Rattle.mtree_node.proofs.Opened.{opened_inner, opened_leaf}
+use Rattle.mtree_node.proofs.Sizes.{all_weaker}
 use Rattle.mtree_index.specs.Insertion.{inserted, inserted_in, settled_leaf, settled_inner, new_entry, replaced_at, chosen, renewed}
 
 pub has_level : (dist : List ℕ → List ℕ → ℕ) (width greatest h : ℕ) (over : Option (List ℕ)) (n : Node) → IsNode dist width greatest h over n → h ≡ suc (h - 1)
 has_level dist width greatest zero over n s = absurd s
 has_level dist width greatest (suc h) over n s = omega arith
+
+-- the vectors of a leaf have the width
+pub leaf_widths : (dist : List ℕ → List ℕ → ℕ) (width greatest h : ℕ) (over : Option (List ℕ)) (n : Node) (tag : ℕ) (es : List LeafEntry) → IsNode dist width greatest h over n → n ≡ node.Leaf tag es
+    → AllByRecursion (λ e. length e.vector ≡ width) es
+leaf_widths dist width greatest zero over n tag es s is = absurd s
+leaf_widths dist width greatest (suc h) over n tag es s is =
+    let below = λ (object : List ℕ) (m : Node). IsNode dist width greatest h (Some object) m in
+    let here = subst (IsNodeIn dist width greatest h below (leaves h) over) (opened_leaf n tag es is) s in
+    all_weaker (IsLeafEntry dist width greatest over) _ es (λ e k. k.vector.len) here.2
 
 module _ (dist : List ℕ → List ℕ → ℕ) (greatest number : ℕ) (v : List ℕ) (over : Option (List ℕ)) (n : Node) (tag h k : ℕ) (level : h ≡ suc k) where
   pub inserted_leaf : (es : List LeafEntry) → n ≡ node.Leaf tag es → inserted dist greatest number v h over n ≡ settled_leaf dist greatest tag 0 (es ++ new_entry dist greatest number v over ∷ [])

@@ -4,6 +4,8 @@ pub mod Insertion
 pub mod Plain
 pub mod Tree
 pub mod Found
+pub mod Band
+pub mod AtPlaces
 pub mod Removal
 pub mod Shrinking
 pub mod Joinable

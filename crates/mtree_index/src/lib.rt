@@ -15,6 +15,7 @@ mod expected;
 mod insertion;
 mod joining;
 pub mod laws;
+mod pruning;
 mod query;
 #[cfg(test)]
 mod query_tests;

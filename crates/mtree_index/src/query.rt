@@ -1,10 +1,13 @@
-ghost use Rattle.std.specs.Prelude.{◌≡◌, ℕ, ◌+◌, ◌≤◌, ◌++◌, length, sum_by, OnOk, IfOk, None, [], ◌∷◌};
+ghost use Rattle.std.specs.Prelude.{◌≡◌, ℕ, ◌+◌, ◌<◌, ◌≤◌, ◌++◌, if◌then◌else◌, List, length, take, sum_by, OnOk, IfOk, None, [], ◌∷◌};
 ghost use Rattle.std.specs.List.{AllByRecursion, flat_map};
 ghost use Rattle.vec_record.specs.Vectors.{IsVector, IsWidth};
+ghost use Rattle.mtree_node.specs.declared.node.LeafEntry.{LeafEntry as PlainEntry};
 ghost use Rattle.mtree_node.specs.declared.node.InnerEntry.{out-InnerEntry};
 ghost use Rattle.mtree_node.specs.Cost.{is_skipped, leaf_cost, entry_cost, cost};
+ghost use Rattle.mtree_index.specs.AtPlaces.{at_place};
 ghost use Rattle.mtree_index.specs.Found.{IsShaped, IsEntryOver, number_within, leaf_found, entry_found, found};
 
+use crate::pruning::{Band, is_skipped};
 use mtree_node::{InnerEntry, LeafEntry, Node};
 use std::alloc::AllocError;
 use std::sync::ledger::Ledger;
@@ -12,16 +15,6 @@ use vec_record::{Metric, Number, Steps, Vector};
 
 // A leaf of the tree has at most 30 entries, so one group is enough for it.
 const GROUP: usize = 32;
-
-/// The first pruning test: by the distances to the node's object an entry can't be within reach.
-pub fn is_skipped(to_object: Option<u32>, reach: u64, parent: u32) -> bool
-    ensures { result ≡ is_skipped to_object reach parent }
-{
-    match to_object {
-        None => false,
-        Some(distance) => reach < u64::from(distance.abs_diff(parent)),
-    }
-}
 
 // Adds the number of an entry that the first pruning test leaves, if its vector is within the radius.
 fn look_at_vector<M: Metric, L: Ledger>(
@@ -70,8 +63,27 @@ fn look_at_entry<M: Metric, L: Ledger>(
     search::<M, L>(below, height, Some(distance), centre, radius, out, steps)
 }
 
-// First tests all entries, without a branch, and then computes the distances of those that are left: a
-// branch on each test would be guessed wrong too often, and each wrong guess would wait for memory.
+// The places of the entries that the first pruning test leaves, and how many there are. It tests without a
+// branch: one for each entry would be guessed wrong too often, and each wrong guess would wait for memory.
+#[inline]
+fn places_left(entries: &[LeafEntry], to_object: Option<u32>, radius: u32) -> ([u8; GROUP], usize)
+    requires few { length entries.now ≤ 32 }
+    ensures room { result.1 ≤ 32 }
+    ensures inside { AllByRecursion (λ k. k < length entries.now) (take result.1 result.0) }
+    ensures left { (f : PlainEntry → List ℕ) → flat_map (at_place f entries.now) (take result.1 result.0) ≡ flat_map (λ e. if is_skipped to_object radius e.parent then [] else f e) entries.now }
+    ensures counted { result.1 ≡ sum_by (λ e. if is_skipped to_object radius e.parent then 0 else 1) entries.now }
+{
+    let band = Band::new(to_object, radius);
+    let mut left = [0u8; GROUP];
+    let mut count = 0;
+    for (place, entry) in entries.iter().enumerate() {
+        left[count] = place as u8;
+        count += usize::from(band.has(entry.parent));
+    }
+    (left, count)
+}
+
+// First tests all entries, and then computes the distances of those that are left.
 fn look_at_group<M: Metric, L: Ledger>(
     entries: &[LeafEntry],
     to_object: Option<u32>,
@@ -87,16 +99,9 @@ fn look_at_group<M: Metric, L: Ledger>(
     ensures counted { OnOk result (steps.new ≡ steps.old + sum_by (leaf_cost M.dist centre.now radius to_object) entries.now) }
     ensures at_most { steps.new ≤ steps.old + sum_by (leaf_cost M.dist centre.now radius to_object) entries.now }
 {
-    let Some(first) = entries.first() else {
-        return Ok(());
-    };
-    let mut left = [first; GROUP];
-    let mut count = 0;
-    for entry in entries {
-        left[count] = entry;
-        count += usize::from(!is_skipped(to_object, u64::from(radius), entry.parent));
-    }
-    for entry in &left[..count] {
+    let (places, count) = places_left(entries, to_object, radius);
+    for place in &places[..count] {
+        let entry = &entries[usize::from(*place)];
         look_at_vector::<M, L>(entry, centre, radius, out, steps)?;
     }
     Ok(())

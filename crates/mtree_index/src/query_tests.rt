@@ -8,7 +8,7 @@ ghost use Rattle.mtree_index.specs.Tree.{query_cost};
 
 use crate::MTree;
 use crate::expected::COSTS;
-use crate::query::is_skipped;
+use crate::pruning::is_skipped;
 use crate::tests::{grown, next_vector};
 use int_metric::L1;
 use mtree_node::{InnerEntry, LeafEntry, Node};

@@ -4,26 +4,17 @@ ghost use Rattle.std.specs.Option.{option_copied, option_map};
 ghost use Rattle.vec_record.specs.Vectors.{IsWidth, IsVector};
 ghost use Rattle.mtree_node.specs.declared.node.InnerEntry.{out-InnerEntry};
 ghost use Rattle.mtree_node.specs.Tree.{IsNode, IsInnerEntry, leaves};
-ghost use Rattle.mtree_node.specs.Cost.{is_skipped, leaf_cost, entry_cost, cost};
+ghost use Rattle.mtree_node.specs.Cost.{leaf_cost, entry_cost, cost};
 ghost use Rattle.mtree_index.specs.Removal.{is_pair, without_first, first_changed, entry_without, removed, refilled, to_object};
 ghost use Rattle.mtree_index.specs.Joinable.{given, given_at};
 
 use crate::joining::refill;
+use crate::pruning::is_skipped;
 use items::Items;
 use mtree_node::{InnerEntry, LeafEntry, Node};
 use std::alloc::{AllocError, Global};
 use std::sync::ledger::Ledger;
 use vec_record::{Metric, Number, Steps, Vector};
-
-// The first pruning test, with the distance of the node's object, none in the root.
-fn is_skipped(to_object: Option<u32>, reach: u32, parent: u32) -> bool
-    ensures { result ≡ is_skipped to_object reach parent }
-{
-    match to_object {
-        None => false,
-        Some(distance) => reach < distance.abs_diff(parent),
-    }
-}
 
 fn is_pair<M: Metric, L: Ledger>(
     entry: &LeafEntry,
@@ -86,7 +77,7 @@ fn remove_under<M: Metric, L: Ledger>(
     ensures searched { result ≡ Ok false → steps.new ≤ steps.old + entry_cost M.dist vector.now 0 (cost M.dist vector.now 0 height) to_object (out-InnerEntry entry.old) }
     ensures counted { steps.new ≤ steps.old + 1400 * height + entry_cost M.dist vector.now 0 (cost M.dist vector.now 0 height) to_object (out-InnerEntry entry.old) }
 {
-    if is_skipped(to_object, entry.radius, entry.parent) {
+    if is_skipped(to_object, u64::from(entry.radius), entry.parent) {
         return Ok(false);
     }
     let distance = M::distance(vector, &entry.object, steps);

@@ -21,6 +21,7 @@ use mtree_node::{BuildFault, LeafEntry, Node, Shapes, build};
 use plain_dbscan::RangeIndex;
 use std::alloc::{AllocError, Global};
 use std::marker::{Model, PhantomData};
+use std::mem;
 use std::sync::ledger::Ledger;
 use vec_record::{Metric, Number, Numbers, Records, Steps, Vector};
 
@@ -152,11 +153,14 @@ impl<M: Metric> RangeIndex<M> for MTree<M> {
         steps: &mut Steps<L>,
     ) -> Result<(), AllocError> {
         let _ = centre.as_slice();
+        // The memory of `out` serves again, so that a query after another takes none.
+        let mut numbers = mem::replace(out, Numbers::new(self.alloc)).into_vec();
+        numbers.clear();
         let root = self.root.as_ref();
-        let found = numbers_found::<M, L>(self.alloc, self.height, root, centre, eps, steps)?;
-        let mut numbers = found;
+        find_numbers::<M, L>(self.height, root, centre, eps, &mut numbers, steps)?;
         numbers.sort_unstable();
-        put_all(self.alloc, &numbers, out)
+        *out = Numbers::from_vec(numbers);
+        Ok(())
     }
 
     fn insert<L: Ledger>(
@@ -211,39 +215,27 @@ fn unboxed(root: Option<Boxed<Node>>) -> Option<Node>
     root.map(Boxed::into_inner)
 }
 
-// The numbers of a tree within the radius of the centre, in the order of the leaves.
-fn numbers_found<M: Metric, L: Ledger>(
-    alloc: Global,
+// Puts the numbers of a tree within the radius of the centre into an empty list, in the order of the leaves.
+fn find_numbers<M: Metric, L: Ledger>(
     height: u32,
     root: Option<&Node>,
     centre: &Vector,
     radius: u32,
+    out: &mut Vec<Number>,
     steps: &mut Steps<L>,
-) -> Result<Vec<Number>, AllocError>
+) -> Result<(), AllocError>
     requires width { IsWidth (length centre.now) }
     requires centre { AreBytes centre.now }
     requires root { IsRoot M.dist (length centre.now) (M.most (length centre.now)) height (option_copied root) }
-    ensures found { IfOk result (λ f. f.items ≡ numbers_within M.dist centre.now radius (leaves_of height (option_copied root.entry))) }
+    requires empty { out.old.items ≡ [] }
+    ensures found { OnOk result (out.new.items ≡ numbers_within M.dist centre.now radius (leaves_of height (option_copied root.entry))) }
     ensures counted { OnOk result (steps.new ≡ steps.old + root_cost M.dist height (option_copied root.entry) centre.now radius) }
     ensures at_most { steps.new ≤ steps.old + root_cost M.dist height (option_copied root.entry) centre.now radius }
 {
-    let mut found = Vec::new(alloc);
-    let Some(root) = root else {
-        return Ok(found);
-    };
-    search::<M, L>(root, height, None, centre, radius, &mut found, steps)?;
-    Ok(found)
-}
-
-// Puts the numbers in place of those that a list held.
-fn put_all(alloc: Global, numbers: &[Number], out: &mut Numbers) -> Result<(), AllocError>
-    ensures { OnOk result (out.new ≡ numbers.now) }
-{
-    *out = Numbers::new(alloc);
-    for number in numbers {
-        out.push(*number)?;
+    match root {
+        None => Ok(()),
+        Some(root) => search::<M, L>(root, height, None, centre, radius, out, steps),
     }
-    Ok(())
 }
 
 // The root after an insertion, and its height.

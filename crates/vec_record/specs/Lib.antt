@@ -1,4 +1,5 @@
 pub mod Vectors
+pub mod Place
 pub mod Distance
 pub mod Limits
 pub mod Held

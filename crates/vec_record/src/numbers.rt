@@ -29,6 +29,20 @@ impl Numbers {
         }
     }
 
+    /// The list of the numbers of a vector, without taking memory.
+    pub fn from_vec(items: Vec<Number>) -> Numbers
+        ensures { result ≡ items.items }
+    {
+        Numbers { items }
+    }
+
+    /// Gives the vector back, without taking memory.
+    pub fn into_vec(self) -> Vec<Number>
+        ensures { result.items ≡ self }
+    {
+        self.items
+    }
+
     pub fn push(&mut self, item: Number) -> Result<(), AllocError>
         ensures ok { OnOk result (self.new ≡ self.old ++ item ∷ []) }
         ensures err { OnErr result (self.new ≡ self.old) }

@@ -2,12 +2,13 @@ use Rattle.std.proofs.Common.{rules, ◌≡◌, ℕ, ◌-◌, List, length, map,
 use Rattle.std.specs.List.{AllByRecursion}
 use Rattle.std.specs.Option.{option_copied}
 use Rattle.std.proofs.lemmas.Result.{on_ok_weaker}
+use Rattle.mtree_node.specs.declared.node.LeafEntry.{LeafEntry}
 use Rattle.mtree_node.specs.declared.node.InnerEntry.{InnerEntry, out-InnerEntry}
 use Rattle.mtree_node.specs.declared.node.Node.{Node}
 use Rattle.mtree_node.specs.declared.node.Node.TheViews.{the_lemmas}
 use Rattle.mtree_index.specs.Insertion.{inserted, settled_inner, chosen, entry_distance, renewed, after_child, entries_of, replaced_at}
-use Rattle.mtree_index.proofs.Opened.{has_level, inserted_leaf, inserted_inner}
-use Rattle.mtree_index.proofs.Places.{replaced_there, get_set, all_replaced, all_set, length_replaced, length-set_at, get_index, all_weaker, all_get}
+use Rattle.mtree_index.proofs.Opened.{has_level, leaf_widths, inserted_leaf, inserted_inner}
+use Rattle.mtree_index.proofs.Places.{replaced_there, get_set, all_replaced, all_set, length_replaced, length-set_at, get_index, all_weaker, all_append, all_get}
 use Rattle.mtree_index.proofs.Widths.{widths_of, at_most_two}
 use Rattle.mtree_index.proofs.insertion.+insert.Goals as goal
 
@@ -78,3 +79,13 @@ insert_among-returns-clause-one_more g t c =
     let new = entries_of g.M.Metric.dist over c.in_ok-pair.pair now in
     let few = length_replaced (λ _. new) (slice_set es place now) place 2 (λ _. at_most_two g.M.Metric.dist over c.in_ok-pair.pair now) (omega arith) in
     on_ok_weaker c.put_pair.result (λ d. omega (arith, ap length (d now (get_set es place e now c.item_mut-entry.ensures.value)), few, length-set_at es place now)) c.put_pair.ensures.is
+
+pub insert_below-settle_leaf-requires-clause-vectors : goal.insert_below-settle_leaf-requires-clause-vectors
+insert_below-settle_leaf-requires-clause-vectors g t c =
+    let w = length c.args.vector.now in
+    let has = λ (e : LeafEntry). length e.vector ≡ w in
+    let old = leaf_widths g.M.Metric.dist w (g.M.Metric.most w) c.args.height (option_copied c.args.over) c.args.node.now c.in-Leaf.tag c.in-Leaf.entries c.requires.node c.in-Leaf.is in
+    rw (c.width_of-width.ensures, c.in_ok-push-in-Leaf.ensures.ok, c.in-Leaf.entries-is) (all_append has c.in-Leaf.entries _ old (ap length c.in_ok-copy-in-Leaf.ensures, tt))
+
+pub insert_below-settle_inner-requires-clause-vectors : goal.insert_below-settle_inner-requires-clause-vectors
+insert_below-settle_inner-requires-clause-vectors g t c = rw (c.width_of-width.ensures) c.in_ok-insert_among-in-Inner.ensures.objects

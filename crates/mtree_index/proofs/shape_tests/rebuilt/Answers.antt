@@ -9,7 +9,6 @@ use Rattle.mtree_node.specs.Tree.{records, IsTree}
 use Rattle.mtree_node.specs.Preorder.{preorder}
 use Rattle.mtree_node.specs.Walk.{CanBeBuilt, IsTreeOf}
 use Rattle.mtree_node.proofs.Asked.{trees_can_be_built}
-use Rattle.mtree_index.specs.Plain.{PlainTree}
 use Rattle.mtree_index.specs.Tree.{records_of}
 use Rattle.mtree_node.proofs.Tags.{node_is_leveled}
 use Rattle.mtree_index.proofs.Shapes.{tree_level, same_tree}

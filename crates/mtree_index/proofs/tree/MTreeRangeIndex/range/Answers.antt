@@ -2,7 +2,6 @@ use Rattle.std.proofs.Common.{◌≡◌, ℕ, List, length, Option, Some, sym, a
 use Rattle.std.specs.FinMap as map
 use Rattle.std.specs.List.Sorted.{IsPermutation}
 use Rattle.std.proofs.lemmas.List.Sorted.{IsNonDecreasingBy-from_sort}
-use Rattle.std.proofs.lemmas.Result.{on_ok_weaker}
 use Rattle.vec_record.specs.Vectors.{IsVector, IsWidth}
 use Rattle.plain_dbscan.specs.Index.{near}
 use Rattle.mtree_node.specs.declared.node.Node.{Node}
@@ -25,8 +24,8 @@ lawful g w v width iv =
       small = let top = (law.defined w v v width iv iv).1 in omega (arith, top, small_greatest g.M.Metric.KIND w width.small);
     }
 
-pub returns-in_err-found-clause-vectors : goal.returns-in_err-found-clause-vectors
-returns-in_err-found-clause-vectors g c =
+pub returns-in_err-find_numbers-clause-vectors : goal.returns-in_err-find_numbers-clause-vectors
+returns-in_err-find_numbers-clause-vectors g c =
     let w : c.self.inside.width ≡ length c.args.centre.now = ap (λ (t : PlainTree). t.width) c.self.view_is ∙ sym c.requires.width in
     let iv : IsVector c.self.inside.width c.args.centre.now = record { len = sym w; bytes = c.as_slice.ensures.bytes } in
     let laws = lawful g c.self.inside.width c.args.centre.now c.self.invariant.width iv in
@@ -47,10 +46,10 @@ returns-clause-found g c =
     let q = c.args.centre.now in
     let eps = c.args.eps in
     let es = leaves_of c.self.inside.height c.self.inside.root in
-    let found : c.in_ok-found.found.items ≡ numbers_within dist q eps es =
-    c.in_ok-found.ensures.found ∙ ap (λ (o : Option Node). numbers_within dist q eps (leaves_of c.self.inside.height o)) c.as_ref-root.ensures.value in
+    let found : c.find_numbers.new.out.items ≡ numbers_within dist q eps es =
+    c.in_ok-find_numbers.ensures.found ∙ ap (λ (o : Option Node). numbers_within dist q eps (leaves_of c.self.inside.height o)) c.as_ref-root.ensures.value in
     let moved : IsPermutation (numbers_within dist q eps es) c.sort_unstable.new.self.items = subst (λ (xs : List ℕ). IsPermutation xs c.sort_unstable.new.self.items) found c.sort_unstable.ensures.permutation in
     let up = IsNonDecreasingBy-from_sort (λ (x : ℕ). x) c.sort_unstable.new.self.items c.sort_unstable.ensures.sorted in
     let distinct = root_distinct dist c.self.inside.width (g.M.Metric.most c.self.inside.width) c.self.inside.height c.self.inside.root c.self.invariant.root in
     let whole = sorted_near dist q eps es distinct c.sort_unstable.new.self.items moved up in
-    on_ok_weaker c.put_all.result (λ d. d ∙ (c.deref.ensures.value ∙ (whole ∙ ap (λ (t : PlainTree). near dist (contents t) q eps) c.self.view_is))) c.put_all.ensures
+    c.from_vec.ensures ∙ (whole ∙ ap (λ (t : PlainTree). near dist (contents t) q eps) c.self.view_is)

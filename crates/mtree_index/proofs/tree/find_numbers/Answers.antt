@@ -1,5 +1,6 @@
 use Rattle.std.proofs.Common.{◌≡◌, ◌++◌, List, ℕ, length, Option, Some, None, ap, subst, sym, ◌∙◌, refl, arith}
 use Rattle.std.specs.Option.{option_copied}
+use Rattle.std.proofs.lemmas.Result.{on_ok_weaker}
 use Rattle.vec_record.specs.Vectors.{IsVector}
 use Rattle.mtree_node.specs.declared.node.Node.{Node}
 use Rattle.mtree_node.specs.Tree.{IsTree}
@@ -8,7 +9,7 @@ use Rattle.mtree_index.specs.Tree.{IsRoot, leaves_of}
 use Rattle.mtree_index.proofs.Exact.{shaped, exact}
 use Rattle.mtree_index.proofs.Grown.{small_greatest}
 use Rattle.mtree_index.proofs.Parted.{Lawful}
-use Rattle.mtree_index.proofs.tree.numbers_found.Goals as goal
+use Rattle.mtree_index.proofs.tree.find_numbers.Goals as goal
 
 pub search-requires-clause-shaped : goal.search-requires-clause-shaped
 search-requires-clause-shaped g c =
@@ -18,8 +19,8 @@ search-requires-clause-shaped g c =
     let tree : IsTree g.M.Metric.dist w most c.args.height c.in-Some.root.now = subst (IsRoot g.M.Metric.dist w most c.args.height) there c.requires.root in
     shaped g.M.Metric.dist w most c.args.height None c.in-Some.root.now tree.node
 
-pub returns-clause-found : goal.returns-clause-found
-returns-clause-found g c =
+pub returns-in-Some-clause-found : goal.returns-in-Some-clause-found
+returns-in-Some-clause-found g c =
     let w = length c.args.centre.now in
     let dist = g.M.Metric.dist in
     let most = g.M.Metric.most w in
@@ -35,6 +36,6 @@ returns-clause-found g c =
     let there : option_copied c.args.root ≡ Some c.in-Some.root.now = ap option_copied c.in-Some.is in
     let tree : IsTree dist w most c.args.height c.in-Some.root.now = subst (IsRoot dist w most c.args.height) there c.requires.root in
     let all : List ℕ = found dist q c.args.radius c.args.height None c.in-Some.root.now in
-    let items : c.search.new.out.items ≡ all = c.in_ok-search.ensures.found ∙ ap (λ (xs : List ℕ). xs ++ all) c.new-found.ensures.items in
+    let start : c.args.out.now.items ++ all ≡ all = ap (λ (xs : List ℕ). xs ++ all) c.requires.empty in
     let near = exact dist w most laws (λ u v x y. law.symmetry w u v width x y) q qv c.args.radius c.args.height None None c.in-Some.root.now tt tree.node in
-    items ∙ (near ∙ ap (λ (o : Option Node). numbers_within dist q c.args.radius (leaves_of c.args.height o)) (sym there))
+    on_ok_weaker c.search.result (λ found. found ∙ (start ∙ (near ∙ ap (λ (o : Option Node). numbers_within dist q c.args.radius (leaves_of c.args.height o)) (sym there)))) c.search.ensures.found
