@@ -1,4 +1,4 @@
-ghost use Rattle.std.specs.Prelude.{◌≡◌, IfOk, IsOk, OnOk};
+ghost use Rattle.std.specs.Prelude.{◌≡◌, IfOk, IsOk, OnErr, OnOk};
 ghost use Rattle.std.specs.List.{AllByRecursion};
 ghost use Rattle.batch_text.specs.After.{CanApply, after, changed};
 ghost use Rattle.batch_text.specs.Batch.{Fits};
@@ -6,11 +6,12 @@ ghost use Rattle.batch_text.specs.Batch.{Fits};
 use std::alloc::AllocError;
 use vec_record::{Change, Changes, Params, Records};
 
-/// Applies one change that can apply.
-fn apply_one(records: &mut Records, change: Change) -> Result<(), AllocError>
+/// Applies one change that can apply. After want of memory the records are as before.
+pub fn apply_change(records: &mut Records, change: Change) -> Result<(), AllocError>
     requires fits { Fits records.old.width change }
     requires can { CanApply records.old.vectors change }
     ensures ok { OnOk result (records.new ≡ record records.old { vectors = changed records.old.vectors change }) }
+    ensures err { OnErr result (records.new ≡ records.old) }
     ensures width { records.new.width ≡ records.old.width }
 {
     match change {
@@ -32,7 +33,7 @@ pub fn apply_all(records: &mut Records, params: &Params, changes: Changes) -> Re
     ensures width { records.new.width ≡ records.old.width }
 {
     for change in changes.into_vec() {
-        apply_one(records, change)?;
+        apply_change(records, change)?;
     }
     Ok(())
 }

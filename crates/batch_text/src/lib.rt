@@ -2,8 +2,8 @@
 //!
 //! Stands on the records of `vec_record` and on the ported crate `csv`. [`read_batch`] is promised
 //! to give exactly what the records of the whole body say, by the definitions in `specs/`;
-//! [`check_batch`] answers the first change that cannot apply, and [`apply_all`] applies changes
-//! that passed it.
+//! [`check_batch`] answers the first change that cannot apply, [`apply_change`] applies one that
+//! can, and [`apply_all`] applies changes that passed the check.
 #![tactic(auto)]
 
 pub mod apply;
@@ -17,7 +17,7 @@ mod rows;
 #[cfg(test)]
 mod tests;
 
-pub use apply::apply_all;
+pub use apply::{apply_all, apply_change};
 pub use check::check_batch;
 pub use faults::{CheckFault, LineFault};
 pub use read::{ReadBatch, read_batch};

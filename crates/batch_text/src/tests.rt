@@ -1,13 +1,16 @@
 ghost use Rattle.std.specs.Prelude.{◌≡◌, ◌≤◌, length};
 ghost use Rattle.vec_record.specs.Limits.{width_of};
 
-use crate::apply::apply_all;
+use crate::apply::{apply_all, apply_change};
 use crate::check::check_batch;
+use crate::faults::CheckFault::{Full, Repeated, Unknown};
+use crate::faults::LineFault::{Malformed, WrongLength};
 use crate::faults::{CheckFault, LineFault};
 use crate::read::{ReadBatch, read_batch};
 use std::alloc::{AllocError, Global};
 use std::test::Fail;
-use vec_record::{Change, MetricKind, Params, Records};
+use vec_record::MetricKind::{Hamming, L1, Max};
+use vec_record::{Change, MetricKind, Params, Records, Vector};
 
 /// What a body says under these parameters, with room for two records.
 fn read(alloc: Global, metric: MetricKind, dim: u32, body: &[u8]) -> Result<ReadBatch, AllocError>
@@ -57,82 +60,23 @@ fn bodies(rt: HostRuntime) -> Result<(), Fail> {
     Ok(())
 }
 
-/// The bytes of the vectors that records spell, or the fault of the record.
+/// A metric, a dimension, a record, the bytes of the vector that it spells, and the record's fault.
+const VECTORS: [(MetricKind, u32, &[u8], &[u8], Option<LineFault>); 10] = [
+    (L1, 2, b"+,1,1,255", b"\x01\xFF", None),
+    (Max, 2, b"+,1,007,0", b"\x07\x00", None),
+    (Hamming, 9, b"+,1,000000001", b"\x00\x80", None),
+    (Hamming, 9, b"+,1,0000,00001", b"\x00\x80", None),
+    (Hamming, 9, b"+,1,110000000", b"\xC0\x00", None),
+    (Hamming, 5, b"+,1,10,1,01", b"\xA8", None),
+    (Hamming, 5, b"+,1,1010", b"", Some(WrongLength)),
+    (Hamming, 5, b"+,1,10101,", b"", Some(Malformed)),
+    (Hamming, 5, b"+,1,10102", b"", Some(Malformed)),
+    (Max, 1, b"+,1,1,256", b"", Some(Malformed)),
+];
+
 #[test]
 fn vectors(rt: HostRuntime) -> Result<(), Fail> {
-    let table = [
-        (
-            MetricKind::L1,
-            2,
-            b"+,1,1,255".as_slice(),
-            b"\x01\xFF".as_slice(),
-            None,
-        ),
-        (
-            MetricKind::Max,
-            2,
-            b"+,1,007,0".as_slice(),
-            b"\x07\x00".as_slice(),
-            None,
-        ),
-        (
-            MetricKind::Hamming,
-            9,
-            b"+,1,000000001".as_slice(),
-            b"\x00\x80".as_slice(),
-            None,
-        ),
-        (
-            MetricKind::Hamming,
-            9,
-            b"+,1,0000,00001".as_slice(),
-            b"\x00\x80".as_slice(),
-            None,
-        ),
-        (
-            MetricKind::Hamming,
-            9,
-            b"+,1,110000000".as_slice(),
-            b"\xC0\x00".as_slice(),
-            None,
-        ),
-        (
-            MetricKind::Hamming,
-            5,
-            b"+,1,10,1,01".as_slice(),
-            b"\xA8".as_slice(),
-            None,
-        ),
-        (
-            MetricKind::Hamming,
-            5,
-            b"+,1,1010".as_slice(),
-            b"".as_slice(),
-            Some(LineFault::WrongLength),
-        ),
-        (
-            MetricKind::Hamming,
-            5,
-            b"+,1,10101,".as_slice(),
-            b"".as_slice(),
-            Some(LineFault::Malformed),
-        ),
-        (
-            MetricKind::Hamming,
-            5,
-            b"+,1,10102".as_slice(),
-            b"".as_slice(),
-            Some(LineFault::Malformed),
-        ),
-        (
-            MetricKind::Max,
-            1,
-            b"+,1,1,256".as_slice(),
-            b"".as_slice(),
-            Some(LineFault::Malformed),
-        ),
-    ];
-    for (metric, dim, body, bytes, fault) in table {
+    for (metric, dim, body, bytes, fault) in VECTORS {
         assert!(rt; body.len() <= 500_000);
         let batch = read(rt.alloc(), metric, dim, body)?;
         assert!(rt; batch.fault == fault);
@@ -192,48 +136,24 @@ fn apply(
     }
 }
 
-/// With room for two records, of which number 7 is there: the change that cannot apply, how many
-/// records there are then, and the vector of number 5.
+/// With room for two records, of which number 7 is there: a body, the change that cannot apply, how
+/// many records there are then, and the vector of number 5.
+const CHECKS: [(&[u8], Option<CheckFault>, usize, Option<u8>); 9] = [
+    (b"", None, 1, None),
+    (b"+,1,0\n+,3,2\n-,1\n", Some(Full { place: 2 }), 1, None),
+    (b"+,1,0\n-,7\n+,3,2\n", None, 2, None),
+    (b"+,5,0\n-,5\n+,5,9\n", None, 2, Some(9)),
+    (b"-,7\n+,7,1\n+,5,3\n", None, 2, Some(3)),
+    (b"-,7\n-,7\n", Some(Unknown { place: 2 }), 1, None),
+    (b"-,4\n", Some(Unknown { place: 1 }), 1, None),
+    (b"+,7,1\n", Some(Repeated { place: 1 }), 1, None),
+    (b"-,7\n+,5,1\n+,5,1\n", Some(Repeated { place: 3 }), 1, None),
+];
+
 #[test]
 fn checks(rt: HostRuntime) -> Result<(), Fail> {
-    let table = [
-        (b"".as_slice(), None, 1usize, None),
-        (
-            b"+,1,0\n+,3,2\n-,1\n".as_slice(),
-            Some(CheckFault::Full { place: 2 }),
-            1,
-            None,
-        ),
-        (b"+,1,0\n-,7\n+,3,2\n".as_slice(), None, 2, None),
-        (b"+,5,0\n-,5\n+,5,9\n".as_slice(), None, 2, Some(9)),
-        (b"-,7\n+,7,1\n+,5,3\n".as_slice(), None, 2, Some(3)),
-        (
-            b"-,7\n-,7\n".as_slice(),
-            Some(CheckFault::Unknown { place: 2 }),
-            1,
-            None,
-        ),
-        (
-            b"-,4\n".as_slice(),
-            Some(CheckFault::Unknown { place: 1 }),
-            1,
-            None,
-        ),
-        (
-            b"+,7,1\n".as_slice(),
-            Some(CheckFault::Repeated { place: 1 }),
-            1,
-            None,
-        ),
-        (
-            b"-,7\n+,5,1\n+,5,1\n".as_slice(),
-            Some(CheckFault::Repeated { place: 3 }),
-            1,
-            None,
-        ),
-    ];
     let params = Params::check(MetricKind::L1, 1, 1, 1, 2).expect(&rt, "within the limits");
-    for (body, fault, size, coordinate) in table {
+    for (body, fault, size, coordinate) in CHECKS {
         let mut records = Records::new(rt.alloc(), params.width());
         let first = apply(rt.alloc(), &mut records, &params, b"+,7,0".as_slice())?;
         assert!(rt; first.is_none());
@@ -246,5 +166,19 @@ fn checks(rt: HostRuntime) -> Result<(), Fail> {
             None => assert!(rt; coordinate.is_none()),
         }
     }
+    Ok(())
+}
+
+/// One change after another, without a batch.
+#[test]
+fn single_changes(rt: HostRuntime) -> Result<(), Fail> {
+    let mut records = Records::new(rt.alloc(), 1);
+    let vector = Vector::from_slice(rt.alloc(), &[9])?;
+    apply_change(&mut records, Change::Insert(7, vector))?;
+    assert!(rt; records.len() == 1);
+    let held = records.get(7).expect(&rt, "inserted");
+    assert!(rt; held.as_slice() == [9].as_slice());
+    apply_change(&mut records, Change::Delete(7))?;
+    assert!(rt; records.len() == 0);
     Ok(())
 }

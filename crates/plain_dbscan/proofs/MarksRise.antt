@@ -43,6 +43,10 @@ mark_listed f (e ∷ es) a = elim (cases_eq e.0 a) [
       rw (off, apart) (mark_listed f es a)
 ]
 
+-- the marks of the records give a number its mark, where a record has it
+pub mark_at_marks : (d : Density) (rows : Entries) (a : ℕ) → mark_at (marks_of d rows) a ≡ cond (is_some (value_at nat_cmp a rows)) (Some (mark_of d rows a)) None
+mark_at_marks d rows a = mark_listed (mark_of d rows) rows a
+
 -- a number that no record has is noise
 absent_noise : (d : Density) (rows : Entries) (a : ℕ) → value_at nat_cmp a rows ≡ None → mark_of d rows a ≡ Noise
 absent_noise d rows a none =
@@ -56,4 +60,4 @@ mark_or_noise d rows a (Some v) e = refl
 
 -- the mark of a number in the marks of the records is its mark, whether or not a record has it
 pub mark_in_marks : (d : Density) (rows : Entries) (a : ℕ) → mark_in (marks_of d rows) a ≡ mark_of d rows a
-mark_in_marks d rows a = ap (λ (m : Option Mark). unwrap_or m Noise) (mark_listed (mark_of d rows) rows a) ∙ mark_or_noise d rows a (value_at nat_cmp a rows) refl
+mark_in_marks d rows a = ap (λ (m : Option Mark). unwrap_or m Noise) (mark_at_marks d rows a) ∙ mark_or_noise d rows a (value_at nat_cmp a rows) refl

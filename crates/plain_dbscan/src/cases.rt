@@ -4,11 +4,11 @@ ghost use Rattle.std.specs.Ordering.{nat_cmp};
 ghost use Rattle.std.specs.BTreeSet.{contains};
 ghost use Rattle.std.specs.FinMap.Entries.{is_sorted};
 ghost use lib.Dec.{T};
-ghost use Rattle.plain_dbscan.specs.Cases.{mark_at, new_number, clusters_of, growth, decline, insertion_events, deletion_events, cases_of};
+ghost use Rattle.plain_dbscan.specs.Cases.{new_number, clusters_of, growth, decline, insertion_events, deletion_events, cases_of};
 ghost use Rattle.plain_dbscan.specs.Across.{both_marks, is_core_alone, is_core_alone_of, is_in_both, is_label, labels_in, changed_in};
 ghost use Rattle.plain_dbscan.specs.Texts.{names_cluster};
 
-use crate::marks::{Mark, Marks};
+use crate::marks::{Mark, Marks, find_mark};
 use std::alloc::{AllocError, Global};
 use std::collections::BTreeSet;
 use vec_record::{Event, Events, Kind, Number};
@@ -18,17 +18,6 @@ use vec_record::{Event, Events, Kind, Number};
 struct BothMarks {
     here: Mark,
     there: Mark,
-}
-
-/// The mark of a number in a list that rises.
-fn find_mark(marks: &[(Number, Mark)], number: Number) -> Option<Mark>
-    requires { T (is_sorted nat_cmp marks.now) }
-    ensures { result ≡ mark_at marks.now number }
-{
-    match marks.binary_search_by_key(&number, |&(other, _)| other) {
-        Ok(place) => Some(marks[place].1),
-        Err(_) => None,
-    }
 }
 
 /// Each mark of one list, with that of its number in the other.
@@ -327,8 +316,61 @@ mod tests {
     use super::*;
     use crate::marks::Mark::{Border, Core, Noise};
     use std::test::Fail;
+    use vec_record::Kind::{Absorbed, Created, Merged, Reduced, Removed, Split};
 
     type Row = (Number, Mark);
+
+    const PAIR: &[Row] = &[(1, Core(1)), (2, Core(1))];
+
+    const THREE: &[Row] = &[(1, Core(1)), (2, Core(1)), (3, Core(1))];
+
+    const FIVE: &[Row] = &[
+        (1, Core(1)),
+        (2, Core(1)),
+        (3, Core(1)),
+        (4, Core(1)),
+        (5, Core(1)),
+    ];
+
+    const THREE_CORES: &[Row] = &[
+        (1, Border(2)),
+        (2, Core(2)),
+        (3, Core(2)),
+        (4, Core(2)),
+        (5, Border(2)),
+    ];
+
+    const TWO_PAIRS: &[Row] = &[(1, Core(1)), (2, Core(1)), (4, Core(4)), (5, Core(4))];
+
+    const TWO_CORES: &[Row] = &[
+        (1, Border(3)),
+        (2, Border(3)),
+        (3, Core(3)),
+        (4, Core(4)),
+        (5, Border(4)),
+        (6, Border(4)),
+        (7, Border(3)),
+    ];
+
+    const ONE_CORE: &[Row] = &[
+        (2, Noise),
+        (3, Noise),
+        (4, Core(4)),
+        (5, Border(4)),
+        (6, Border(4)),
+        (7, Border(4)),
+    ];
+
+    const FOUR_NOISE: &[Row] = &[(1, Noise), (2, Noise), (4, Noise), (5, Noise)];
+
+    const SIX_NOISE: &[Row] = &[
+        (1, Noise),
+        (2, Noise),
+        (3, Noise),
+        (4, Noise),
+        (5, Noise),
+        (6, Noise),
+    ];
 
     fn listed(alloc: Global, rows: &[Row]) -> Result<Marks, AllocError>
         ensures { IfOk result (λ marks. marks ≡ rows.now) }
@@ -363,148 +405,29 @@ mod tests {
 
     #[test]
     fn insertions_of_worked_rows(rt: HostRuntime) -> Result<(), Fail> {
-        assert!(rt; has_events(rt.alloc(), &[], &[(1, Noise)], &[event(Kind::Noise, 0, 1)])?);
-        assert!(rt;
-            has_events(
-                rt.alloc(),
-                &[(1, Noise)],
-                &[(1, Core(1)), (2, Core(1))],
-                &[event(Kind::Created, 0, 1)]
-            )?
-        );
-        assert!(rt;
-            has_events(
-                rt.alloc(),
-                &[(1, Core(1)), (2, Core(1))],
-                &[(1, Core(1)), (2, Core(1)), (3, Core(1))],
-                &[event(Kind::Absorbed, 1, 1)]
-            )?
-        );
-        assert!(rt;
-            has_events(
-                rt.alloc(),
-                &[(1, Core(1)), (2, Core(1)), (4, Core(4)), (5, Core(4))],
-                &[
-                    (1, Core(1)),
-                    (2, Core(1)),
-                    (3, Core(1)),
-                    (4, Core(1)),
-                    (5, Core(1))
-                ],
-                &[event(Kind::Merged, 1, 1), event(Kind::Merged, 4, 1)]
-            )?
-        );
-        assert!(rt;
-            has_events(
-                rt.alloc(),
-                &[
-                    (1, Noise),
-                    (2, Noise),
-                    (3, Noise),
-                    (4, Noise),
-                    (5, Noise),
-                    (6, Noise)
-                ],
-                &[
-                    (1, Border(3)),
-                    (2, Border(3)),
-                    (3, Core(3)),
-                    (4, Core(4)),
-                    (5, Border(4)),
-                    (6, Border(4)),
-                    (7, Border(3))
-                ],
-                &[event(Kind::Created, 0, 3), event(Kind::Created, 0, 4)]
-            )?
-        );
+        let alloc = rt.alloc();
+        assert!(rt; has_events(alloc, &[], &[(1, Noise)], &[event(Kind::Noise, 0, 1)])?);
+        assert!(rt; has_events(alloc, &[(1, Noise)], PAIR, &[event(Created, 0, 1)])?);
+        assert!(rt; has_events(alloc, PAIR, THREE, &[event(Absorbed, 1, 1)])?);
+        let merged = [event(Merged, 1, 1), event(Merged, 4, 1)];
+        assert!(rt; has_events(alloc, TWO_PAIRS, FIVE, &merged)?);
+        let created = [event(Created, 0, 3), event(Created, 0, 4)];
+        assert!(rt; has_events(alloc, SIX_NOISE, TWO_CORES, &created)?);
         Ok(())
     }
 
     #[test]
     fn deletions_of_worked_rows(rt: HostRuntime) -> Result<(), Fail> {
-        assert!(rt;
-            has_events(
-                rt.alloc(),
-                &[
-                    (1, Core(1)),
-                    (2, Core(1)),
-                    (3, Core(1)),
-                    (4, Core(1)),
-                    (5, Core(1))
-                ],
-                &[(1, Core(1)), (2, Core(1)), (4, Core(4)), (5, Core(4))],
-                &[event(Kind::Split, 1, 1), event(Kind::Split, 1, 4)]
-            )?
-        );
-        assert!(rt;
-            has_events(
-                rt.alloc(),
-                &[
-                    (1, Border(2)),
-                    (2, Core(2)),
-                    (3, Core(2)),
-                    (4, Core(2)),
-                    (5, Border(2))
-                ],
-                &[(1, Noise), (2, Noise), (4, Noise), (5, Noise)],
-                &[event(Kind::Removed, 2, 0)]
-            )?
-        );
-        assert!(rt;
-            has_events(
-                rt.alloc(),
-                &[
-                    (1, Border(3)),
-                    (2, Border(3)),
-                    (3, Core(3)),
-                    (4, Core(4)),
-                    (5, Border(4)),
-                    (6, Border(4)),
-                    (7, Border(3))
-                ],
-                &[
-                    (1, Noise),
-                    (2, Noise),
-                    (3, Noise),
-                    (4, Noise),
-                    (5, Noise),
-                    (6, Noise)
-                ],
-                &[event(Kind::Removed, 3, 0), event(Kind::Removed, 4, 0)]
-            )?
-        );
-        assert!(rt;
-            has_events(
-                rt.alloc(),
-                &[
-                    (1, Border(3)),
-                    (2, Border(3)),
-                    (3, Core(3)),
-                    (4, Core(4)),
-                    (5, Border(4)),
-                    (6, Border(4)),
-                    (7, Border(3))
-                ],
-                &[
-                    (2, Noise),
-                    (3, Noise),
-                    (4, Core(4)),
-                    (5, Border(4)),
-                    (6, Border(4)),
-                    (7, Border(4))
-                ],
-                &[event(Kind::Removed, 3, 0)]
-            )?
-        );
-        assert!(rt;
-            has_events(
-                rt.alloc(),
-                &[(1, Core(1)), (2, Core(1)), (3, Core(1))],
-                &[(2, Core(2)), (3, Core(2))],
-                &[event(Kind::Reduced, 1, 2)]
-            )?
-        );
-        assert!(rt; has_events(rt.alloc(), &[(3, Noise), (8, Noise)], &[(3, Noise)], &[])?);
+        let alloc = rt.alloc();
+        let split = [event(Split, 1, 1), event(Split, 1, 4)];
+        assert!(rt; has_events(alloc, FIVE, TWO_PAIRS, &split)?);
+        assert!(rt; has_events(alloc, THREE_CORES, FOUR_NOISE, &[event(Removed, 2, 0)])?);
+        let removed = [event(Removed, 3, 0), event(Removed, 4, 0)];
+        assert!(rt; has_events(alloc, TWO_CORES, SIX_NOISE, &removed)?);
+        assert!(rt; has_events(alloc, TWO_CORES, ONE_CORE, &[event(Removed, 3, 0)])?);
+        let later = &[(2, Core(2)), (3, Core(2))];
+        assert!(rt; has_events(alloc, THREE, later, &[event(Reduced, 1, 2)])?);
+        assert!(rt; has_events(alloc, &[(3, Noise), (8, Noise)], &[(3, Noise)], &[])?);
         Ok(())
     }
 }

@@ -4,7 +4,8 @@
 //! They look at all pairs of records. [`cluster_plain`] computes the marks from them and is promised
 //! to give exactly theirs, for every lawful metric; [`laws`] ties the marks to the relations that a
 //! reader believes. [`cases_plain`] gives the events of one change, from the marks before and after
-//! it. [`RangeIndex`] is what an index by distance is. It stands on `vec_record`.
+//! it. [`find_mark`] looks up the mark of a number. [`RangeIndex`] is what an index by distance is.
+//! It stands on `vec_record`.
 #![tactic(auto)]
 
 pub mod cases;
@@ -18,5 +19,5 @@ mod points;
 
 pub use cases::cases_plain;
 pub use index::RangeIndex;
-pub use marks::{Mark, Marks};
+pub use marks::{Mark, Marks, find_mark};
 pub use plain::cluster_plain;

@@ -1,4 +1,8 @@
 ghost use Rattle.std.specs.Prelude.{◌≡◌, [], ◌∷◌, ◌++◌, length, OnOk, OnErr};
+ghost use Rattle.std.specs.Ordering.{nat_cmp};
+ghost use Rattle.std.specs.FinMap.Entries.{is_sorted};
+ghost use lib.Dec.{T};
+ghost use Rattle.plain_dbscan.specs.Cases.{mark_at};
 
 use std::alloc::{AllocError, Global};
 use std::marker::Model;
@@ -54,5 +58,17 @@ impl Marks {
         ensures { result.now ≡ self.now }
     {
         &self.items
+    }
+}
+
+/// The mark of a number in marks by rising number, found by one binary search; `None` exactly where
+/// the number is absent.
+pub fn find_mark(marks: &[(Number, Mark)], number: Number) -> Option<Mark>
+    requires { T (is_sorted nat_cmp marks.now) }
+    ensures { result ≡ mark_at marks.now number }
+{
+    match marks.binary_search_by_key(&number, |&(other, _)| other) {
+        Ok(place) => Some(marks[place].1),
+        Err(_) => None,
     }
 }

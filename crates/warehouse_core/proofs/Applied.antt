@@ -1,5 +1,5 @@
 -- Changes that can apply, one after another, with the marks and the events.
-use Rattle.std.proofs.Common.{◌≡◌, ℕ, ◌+◌, ◌-◌, ◌≤◌, Bool, true, false, cond, nat_le, List, [], ◌∷◌, ◌++◌, Option, Some, None, Result, Ok, Err, IsOk, refl, sym, ap, subst, ◌∙◌, arith, append_assoc, append-nil}
+use Rattle.std.proofs.Common.{◌≡◌, ℕ, ◌+◌, ◌-◌, ◌≤◌, Bool, true, false, cond, ◌&&◌, nat_le, List, [], ◌∷◌, ◌++◌, Option, Some, None, Result, Ok, Err, IsOk, refl, sym, ap, subst, ◌∙◌, arith, append_assoc, append-nil}
 use lib.Dec.{T}
 use Rattle.std.specs.List.{AllByRecursion}
 use Rattle.std.specs.Option.{is_some}
@@ -28,7 +28,14 @@ use Rattle.warehouse_core.specs.Batches.{events_of, marks_on, or_else, rows_afte
 use Rattle.plain_dbscan.specs.Marks.{Entries}
 use Rattle.warehouse_core.specs.Inside.{AreHeld, CanHold}
 use Rattle.warehouse_core.proofs.Alike.{found_so, same_key}
-use Rattle.warehouse_core.proofs.Found.{both, true_of}
+
+true_of : (b : Bool) → T b → b ≡ true
+true_of true h = refl
+true_of false h = absurd h
+
+both : (a b : Bool) → T (a && b) → T a × T b
+both true b h = (tt, h)
+both false b h = absurd h
 
 -- a key that is found stands above all that are below
 found_above : (x : ℕ) (es : Entries) (q : ℕ) (v : List ℕ) → T (below_all nat_cmp x es) → value_at nat_cmp q es ≡ Some v → eq_by_cmp nat_cmp q x ≡ false

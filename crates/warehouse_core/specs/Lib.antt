@@ -3,5 +3,4 @@ pub mod Receipts
 pub mod States
 pub mod Applying
 pub mod Queries
-pub mod Rising
 pub mod Inside

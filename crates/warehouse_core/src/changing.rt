@@ -11,25 +11,11 @@ ghost use Rattle.warehouse_core.specs.Batches.{events_of, marks_on, rows_after};
 ghost use Rattle.warehouse_core.specs.Inside.{AreHeld, CanHold};
 
 use crate::clustering::cluster;
+use batch_text::apply_change;
 use plain_dbscan::{Marks, cases_plain};
 use std::alloc::{AllocError, Global};
 use std::sync::ledger::Ledger;
 use vec_record::{Change, Changes, Events, Metric, Params, Records, Steps};
-
-/// Applies one change to the records.
-fn change_records(records: &mut Records, change: Change) -> Result<(), AllocError>
-    requires fits { Fits records.old.width change }
-    requires can { CanApply records.old.vectors change }
-    ensures { OnOk result (records.new ≡ record records.old { vectors = changed records.old.vectors change }) }
-{
-    match change {
-        Change::Insert(number, vector) => records.insert(number, vector),
-        Change::Delete(number) => {
-            records.remove(number);
-            Ok(())
-        }
-    }
-}
 
 /// Applies one change, makes the marks anew, and appends the events.
 fn apply_one<M: Metric, L: Ledger>(
@@ -53,7 +39,7 @@ fn apply_one<M: Metric, L: Ledger>(
     ensures events { OnOk result (events.new ≡ events.old ++ cases_of marks.old marks.new) }
     ensures counts { steps.old ≤ steps.new }
 {
-    change_records(records, change)?;
+    apply_change(records, change)?;
     let after = cluster::<M, L>(alloc, params, records, steps)?;
     cases_plain(alloc, marks, &after, events)?;
     *marks = after;

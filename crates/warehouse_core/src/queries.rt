@@ -1,37 +1,13 @@
-//! What is found in a list of marks by rising number.
-ghost use Rattle.std.specs.Prelude.{◌≡◌, ℕ, IfOk, IfErr, filter};
+//! Copies and parts of a list of marks.
+ghost use Rattle.std.specs.Prelude.{◌≡◌, ℕ, IfOk, filter};
 ghost use Rattle.std.specs.List.{list_any};
-ghost use Rattle.std.specs.Ordering.{nat_cmp};
-ghost use Rattle.std.specs.FinMap.Entries.{find as value_at, is_sorted};
-ghost use lib.Dec.{T};
 ghost use Rattle.plain_dbscan.specs.Cases.{is_core_of, is_member_of};
 ghost use Rattle.plain_dbscan.specs.declared.marks.Mark.{Mark as AnyMark};
 ghost use Rattle.warehouse_core.specs.Queries.{members_of};
-ghost use Rattle.warehouse_core.specs.Rising.{IsAt, IsGapFor};
 
 use plain_dbscan::{Mark, Marks};
 use std::alloc::{AllocError, Global};
 use vec_record::Number;
-
-/// Where a number stands, or where it would.
-fn search(marks: &[(Number, Mark)], number: Number) -> Result<usize, usize>
-    requires { T (is_sorted nat_cmp marks.now) }
-    ensures found { IfOk result (IsAt marks.now number) }
-    ensures absent { IfErr result (IsGapFor marks.now number) }
-{
-    marks.binary_search_by_key(&number, |entry| entry.0)
-}
-
-/// The mark of a number, by one look-up.
-pub(crate) fn find_mark(marks: &[(Number, Mark)], number: Number) -> Option<Mark>
-    requires { T (is_sorted nat_cmp marks.now) }
-    ensures { result ≡ value_at nat_cmp number marks.now }
-{
-    match search(marks, number) {
-        Ok(at) => Some(marks[at].1),
-        Err(_) => None,
-    }
-}
 
 /// The same marks once more.
 pub(crate) fn copied(alloc: Global, marks: &[(Number, Mark)]) -> Result<Marks, AllocError>

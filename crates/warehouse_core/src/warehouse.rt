@@ -15,12 +15,12 @@ ghost use Rattle.warehouse_core.specs.Applying.{Accepts, Steps as BatchSteps, du
 use crate::changing::apply_changes;
 use crate::clustering::cluster;
 use crate::judging::judge;
-use crate::queries::{copied, find_mark, members_of};
+use crate::queries::{copied, members_of};
 use crate::receipt::{count_deletions, count_insertions, receipt};
 use crate::refusal::Refusal;
 use crate::saving::save;
 use page_gate::Pages;
-use plain_dbscan::{Mark, Marks};
+use plain_dbscan::{Mark, Marks, find_mark};
 use site_disk::Site;
 use std::alloc::{AllocError, Global};
 use std::marker::{Model, PhantomData};

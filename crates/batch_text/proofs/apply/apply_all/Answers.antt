@@ -5,11 +5,11 @@ use Rattle.batch_text.specs.After.{after}
 use Rattle.batch_text.proofs.Applying.{Applying, begins, first_can, first_fits, goes_further}
 use Rattle.batch_text.proofs.apply.apply_all.Goals as goal
 
-pub apply_one-requires-clause-fits : goal.apply_one-requires-clause-fits
-apply_one-requires-clause-fits c = first_fits _ _ _ _ _ _ (begins _ _ _ _ _ _ _ c.in-Some.ensures.steps.0 c.loop-change.invariant.3)
+pub apply_change-requires-clause-fits : goal.apply_change-requires-clause-fits
+apply_change-requires-clause-fits c = first_fits _ _ _ _ _ _ (begins _ _ _ _ _ _ _ c.in-Some.ensures.steps.0 c.loop-change.invariant.3)
 
-pub apply_one-requires-clause-can : goal.apply_one-requires-clause-can
-apply_one-requires-clause-can c = first_can _ _ _ _ _ _ c.requires.accepted (begins _ _ _ _ _ _ _ c.in-Some.ensures.steps.0 c.loop-change.invariant.3)
+pub apply_change-requires-clause-can : goal.apply_change-requires-clause-can
+apply_change-requires-clause-can c = first_can _ _ _ _ _ _ c.requires.accepted (begins _ _ _ _ _ _ _ c.in-Some.ensures.steps.0 c.loop-change.invariant.3)
 
 pub loop-change-init : goal.loop-change-init
 loop-change-init c =
@@ -23,4 +23,4 @@ pub loop-change-preserved : goal.loop-change-preserved
 loop-change-preserved c =
     let steps = c.in-Some.ensures.steps in
     let whole : into_iter_len c.next.new.self ≡ length (into_iter_items c.next.new.self) = omega (arith, steps.1, c.loop-change.invariant.2, ap length steps.0) in
-    (tt, tt, whole, goes_further _ _ _ _ _ _ _ c.requires.accepted (begins _ _ _ _ _ _ _ steps.0 c.loop-change.invariant.3) c.in_ok-apply_one.ensures.ok)
+    (tt, tt, whole, goes_further _ _ _ _ _ _ _ c.requires.accepted (begins _ _ _ _ _ _ _ steps.0 c.loop-change.invariant.3) c.in_ok-apply_change.ensures.ok)

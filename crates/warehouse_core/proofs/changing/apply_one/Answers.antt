@@ -9,7 +9,7 @@ use Rattle.warehouse_core.proofs.changing.apply_one.Goals as goal
 
 pub cluster-requires-clause-each : goal.cluster-requires-clause-each
 cluster-requires-clause-each g c =
-    (held_changed (values_of c.args.params.now) c.args.records.now c.change_records.new.records c.args.change c.requires.held c.requires.fits c.requires.spelled c.in_ok-change_records.ensures).each
+    (held_changed (values_of c.args.params.now) c.args.records.now c.apply_change.new.records c.args.change c.requires.held c.requires.fits c.requires.spelled c.in_ok-apply_change.ensures.ok).each
 
 pub cases_plain-requires-clause-rising_before : goal.cases_plain-requires-clause-rising_before
 cases_plain-requires-clause-rising_before g c =
@@ -19,8 +19,8 @@ cases_plain-requires-clause-rising_before g c =
 pub cases_plain-requires-clause-rising_after : goal.cases_plain-requires-clause-rising_after
 cases_plain-requires-clause-rising_after g c =
     let P : Listed → Type 0 = λ l. T (is_sorted nat_cmp l) in
-    subst P (sym c.in_ok-after.ensures.marks) (marks_sorted (values_of c.args.params.now) c.change_records.new.records.vectors)
+    subst P (sym c.in_ok-after.ensures.marks) (marks_sorted (values_of c.args.params.now) c.apply_change.new.records.vectors)
 
 pub returns-clause-held : goal.returns-clause-held
 returns-clause-held g c =
-    held_changed (values_of c.args.params.now) c.args.records.now c.change_records.new.records c.args.change c.requires.held c.requires.fits c.requires.spelled c.in_ok-change_records.ensures
+    held_changed (values_of c.args.params.now) c.args.records.now c.apply_change.new.records c.args.change c.requires.held c.requires.fits c.requires.spelled c.in_ok-apply_change.ensures.ok

@@ -2,7 +2,7 @@ use Rattle.std.proofs.Common.{ℕ, Ok, Err, rules, sym}
 use Rattle.std.proofs.lemmas.List.Sorted.{answers_always}
 use Rattle.plain_dbscan.specs.declared.marks.Mark.{Mark}
 use Rattle.plain_dbscan.proofs.CasesOf.{mark_found}
-use Rattle.plain_dbscan.proofs.cases.find_mark.Goals as goal
+use Rattle.plain_dbscan.proofs.marks.find_mark.Goals as goal
 
 -- the closure gives a mark's number
 pub returns-in-Ok : goal.returns-in-Ok
