@@ -1,7 +1,7 @@
 #!/bin/sh
 # Time of each distance that a range query over the tree computes: 20,000 vectors of 8 and of 128 bytes under
-# the sum of the absolute differences, 200 queries each with a radius of 20 a byte and with one that reaches
-# every vector. Beside it, in one run, a flat scan in C at -O3. Wants rt and clang. It works in a temporary
+# the sum of the absolute differences, 200 queries each with a radius of 20 a byte, with one that reaches about
+# a tenth of the vectors and with one that reaches all. Beside it, in one run, a flat scan in C at -O3. Wants rt and clang. It works in a temporary
 # folder and leaves nothing behind. The least of three each.
 set -eu
 . "$(dirname "$0")/tree_setup.sh"
@@ -122,7 +122,7 @@ fn measured<L: Ledger>(
 }
 
 fn main(rt: HostRuntime) -> io::Result<()> {
-    for width in [8u32, 128] {
+    for (width, radii) in [(8u32, [160u32, 470, 2040]), (128, [2560, 10050, 32640])] {
         let mut vectors = Vec::new(rt.alloc());
         let mut state = 12345u32;
         for _ in 0..20000 {
@@ -132,9 +132,9 @@ fn main(rt: HostRuntime) -> io::Result<()> {
             return Ok(());
         }
         let tree = insert_all::<Brand>(rt.alloc(), width, &vectors, Blank::new(1))?;
-        for radius in [20 * width, 255 * width, 20 * width, 255 * width, 20 * width, 255 * width] {
-            let some = vectors.as_slice().get(..200).unwrap_or_default();
-            let [total, time, found] = measured::<Brand>(&rt, &tree, some, width, radius, Blank::new(1))?;
+        let some = vectors.as_slice().get(..200).unwrap_or_default();
+        for radius in [radii, radii, radii].as_flattened() {
+            let [total, time, found] = measured::<Brand>(&rt, &tree, some, width, *radius, Blank::new(1))?;
             println!(rt; "{width} {radius} {total} {time} {found}")?;
         }
     }
@@ -180,7 +180,7 @@ PLAIN
 measure
 for width in 8 128; do
     flat=$(awk -v w="$width" '$1 == w && (!best || $2 < best) { best = $2 } END { print best / 1000 }' there)
-    for radius in $((20 * width)) $((255 * width)); do
+    for radius in $(awk -v w="$width" '$1 == w { print $2 }' here | sort -nu); do
         awk -v w="$width" -v r="$radius" -v c="$flat" \
             '$1 == w && $2 == r && (!best || $4 < best) { best = $4; n = $3; f = $5 }
             END { printf "%3d bytes, radius %5d: %6d distances and %5d numbers a query, %6.1f us, %5.1f ns a distance, %.1f in C, ratio %.2f\n", w, r, n / 200, f / 200, best / 200000, best / n, c, best / n / c }' here

@@ -69,69 +69,61 @@ fn are_at_most(values: &[u32], greatest: u32) -> bool
     values.iter().all(|value| *value <= greatest)
 }
 
-// The expected values are the output of `tools/parting_cases.py`.
+// The output of `tools/parting_cases.py`: the count, what the points are made from, what the radii are
+// made from, the greatest distance, the pair, the entries that go right as bits, and the radii.
+const PARTINGS: [(usize, [u32; 3], [u32; 3], u32, [usize; 2], u64, [u32; 2]); 7] = [
+    (31, [0, 0, 1], [0, 1, 0], 510, [0, 1], 0x2aaaaaaa, [0, 0]),
+    (
+        36,
+        [1, 0, 100],
+        [0, 1, 0],
+        510,
+        [8, 26],
+        0xffffc0000,
+        [9, 9],
+    ),
+    (34, [1, 0, 2], [1, 5, 0], 510, [0, 1], 0x2aaaaaaaa, [4, 4]),
+    (
+        36,
+        [37, 13, 101],
+        [7, 11, 0],
+        510,
+        [9, 29],
+        0x8e8e8f4f0,
+        [78, 67],
+    ),
+    (
+        33,
+        [91, 57, 256],
+        [1, 3, 498],
+        510,
+        [0, 1],
+        0x1632995a6,
+        [510, 510],
+    ),
+    (
+        32,
+        [91, 57, 256],
+        [29, 300, 0],
+        510,
+        [1, 4],
+        0xc663399c,
+        [402, 405],
+    ),
+    (
+        35,
+        [91, 57, 256],
+        [29, 300, 0],
+        290,
+        [0, 1],
+        0x3732994a6,
+        [290, 290],
+    ),
+];
+
 #[test]
 fn partings_from_outside(rt: HostRuntime) {
-    // count, what the points are made from, what the radii are made from, the greatest distance, the
-    // pair, the entries that go right as bits, and the radii
-    let rows = [
-        (31, [0, 0, 1], [0, 1, 0], 510, [0, 1], 0x2aaaaaaau64, [0, 0]),
-        (
-            36,
-            [1, 0, 100],
-            [0, 1, 0],
-            510,
-            [8, 26],
-            0xffffc0000u64,
-            [9, 9],
-        ),
-        (
-            34,
-            [1, 0, 2],
-            [1, 5, 0],
-            510,
-            [0, 1],
-            0x2aaaaaaaau64,
-            [4, 4],
-        ),
-        (
-            36,
-            [37, 13, 101],
-            [7, 11, 0],
-            510,
-            [9, 29],
-            0x8e8e8f4f0u64,
-            [78, 67],
-        ),
-        (
-            33,
-            [91, 57, 256],
-            [1, 3, 498],
-            510,
-            [0, 1],
-            0x1632995a6u64,
-            [510, 510],
-        ),
-        (
-            32,
-            [91, 57, 256],
-            [29, 300, 0],
-            510,
-            [1, 4],
-            0xc663399cu64,
-            [402, 405],
-        ),
-        (
-            35,
-            [91, 57, 256],
-            [29, 300, 0],
-            290,
-            [0, 1],
-            0x3732994a6u64,
-            [290, 290],
-        ),
-    ];
-    for (count, points, reaches, greatest, pair, bits, radii) in rows {
+    for (count, points, reaches, greatest, pair, bits, radii) in PARTINGS {
         assert!(rt; 31 <= count && count <= 36);
         let mut matrix = [0u32; 1296];
         let mut entry_radii = [0u32; 36];
