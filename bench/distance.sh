@@ -46,13 +46,19 @@ fn filled(alloc: Global, width: u32) -> Result<Vec<Vector>, AllocError> {
     Ok(all)
 }
 
-fn total<M: Metric, L: Ledger>(all: &[Vector], width: u32, rounds: u32, blank: Blank) -> u32
+fn total<M: Metric, L: Ledger>(
+    rt: &HostRuntime,
+    all: &[Vector],
+    width: u32,
+    rounds: u32,
+    blank: Blank,
+) -> u32
     requires name { blank.name ≡ L.name }
     requires parts { blank.parts ≡ L.parts }
     requires some { 0 < blank.parts }
     requires width { IsWidth width }
 {
-    let mut steps = Steps::<L>::new(blank);
+    let mut steps = Steps::<L>::new(rt, blank);
     let mut total = 0u32;
     for i in 0..rounds {
         let j = (i % 64) as usize;
@@ -74,15 +80,15 @@ fn main(rt: HostRuntime) -> io::Result<()> {
         let all = filled(rt.alloc(), width)?;
         let rounds = 40_000_000 / (width + 16);
         let start = Instant::now(&rt)?;
-        let sum = total::<L1, Brand>(&all, width, rounds, Blank::new(1));
+        let sum = total::<L1, Brand>(&rt, &all, width, rounds, Blank::new(1));
         let time = start.elapsed(&rt)?.as_nanos();
         println!(rt; "l1 {width} {rounds} {time} {sum}")?;
         let start = Instant::now(&rt)?;
-        let sum = total::<Max, Brand>(&all, width, rounds, Blank::new(1));
+        let sum = total::<Max, Brand>(&rt, &all, width, rounds, Blank::new(1));
         let time = start.elapsed(&rt)?.as_nanos();
         println!(rt; "max {width} {rounds} {time} {sum}")?;
         let start = Instant::now(&rt)?;
-        let sum = total::<Hamming, Brand>(&all, width, rounds, Blank::new(1));
+        let sum = total::<Hamming, Brand>(&rt, &all, width, rounds, Blank::new(1));
         let time = start.elapsed(&rt)?.as_nanos();
         println!(rt; "hamming {width} {rounds} {time} {sum}")?;
     }

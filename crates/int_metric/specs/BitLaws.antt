@@ -46,7 +46,7 @@ by_parity x y = eight_same (λ j. cond (not (bit_at x j == bit_at y j)) 1 0) (di
 ones_from : (n j : ℕ) → count_ones (n / 2 ^ j) ≡ bit_at n j + count_ones (n / 2 ^ (j + 1))
 ones_from n j = ones_step (n / 2 ^ j) ∙ ap (λ m. bit_at n j + count_ones m) (shr-shr n j 1)
 
-ones_of_zero : count_ones 0 ≡ 0
+pub ones_of_zero : count_ones 0 ≡ 0
 ones_of_zero = omega (arith, ones_le_self 0)
 
 joined : (a b s c : ℕ) → a ≡ b → b ≡ s + c → c ≡ 0 → a ≡ s
@@ -120,7 +120,7 @@ bits_detour (a ∷ u) (b ∷ v) (c ∷ x) l k =
 add_small : (a b n : ℕ) → a ≤ 8 → b ≤ 8 * n → a + b ≤ 8 * suc n
 add_small a b n p q = omega arith
 
-bits_small : (u v : List ℕ) → all_bits_apart u v ≤ 8 * length u
+pub bits_small : (u v : List ℕ) → all_bits_apart u v ≤ 8 * length u
 bits_small [] v = omega arith
 bits_small (x ∷ xs) [] = omega arith
 bits_small (x ∷ xs) (y ∷ ys) = add_small (bits_apart x y) (all_bits_apart xs ys) (length xs) (byte_small x y) (bits_small xs ys)

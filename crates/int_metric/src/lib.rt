@@ -7,7 +7,10 @@
 #![tactic(auto)]
 
 mod bits;
+mod kernel;
 mod most;
+#[cfg(test)]
+mod rows_tests;
 mod sum;
 #[cfg(test)]
 mod tests;

@@ -1,10 +1,12 @@
-ghost use Rattle.std.specs.Prelude.{◌≡◌, ◌+◌, ◌*◌, ◌<◌, ◌≤◌, length, refl};
+ghost use Rattle.std.specs.Prelude.{◌≡◌, ◌+◌, ◌*◌, ◌<◌, ◌≤◌, nat_le, length, refl};
 ghost use Rattle.vec_record.specs.Distance.{sum_apart};
 ghost use Rattle.vec_record.specs.declared.kind.MetricKind.TheVariants.{L1 as sum_kind};
 ghost use Rattle.int_metric.specs.SumLaws.{sum_identity, sum_symmetry, sum_triangle, sum_bound};
 
+use crate::kernel::{self, Kernel};
+use std::ops::Range;
 use std::sync::ledger::Ledger;
-use vec_record::{Metric, MetricKind, Steps, Vector};
+use vec_record::{Block, Metric, MetricKind, Steps, Vector};
 
 /// The sum of the absolute differences of the bytes (Manhattan distance), at most 255 times the width.
 pub struct L1;
@@ -38,9 +40,76 @@ impl Metric for L1 {
         steps.tick();
         sum_of_differences(a.as_slice(), b.as_slice())
     }
+
+    #[inline]
+    fn within<L: Ledger>(
+        centre: &[u8],
+        block: &Block,
+        places: &[u8],
+        radius: u32,
+        near: &mut [u8],
+        steps: &mut Steps<L>,
+    ) -> usize {
+        steps.tick_many(places.len());
+        kernel::within::<L1>(centre, block, places, radius, near)
+    }
+
+    #[inline]
+    fn within_range<L: Ledger>(
+        centre: &[u8],
+        block: &Block,
+        rows: Range<usize>,
+        radius: u32,
+        near: &mut [usize],
+        steps: &mut Steps<L>,
+    ) -> usize {
+        steps.tick_many(rows.end - rows.start);
+        kernel::within_range::<L1>(centre, block, rows, radius, near)
+    }
+
+    #[inline]
+    fn distances<L: Ledger>(
+        centre: &[u8],
+        block: &Block,
+        places: &[u8],
+        far: &mut [u32],
+        steps: &mut Steps<L>,
+    ) {
+        steps.tick_many(places.len());
+        kernel::distances::<L1>(centre, block, places, far)
+    }
 }
 
-#[inline]
+impl Kernel for L1 {
+    ghost dist = { sum_apart };
+
+    #[inline(always)]
+    fn between(a: &[u8], b: &[u8]) -> u32 {
+        sum_of_differences(a, b)
+    }
+
+    #[inline(always)]
+    fn between_few(a: &[u8], b: &[u8]) -> u32 {
+        sum_of_bytes(a, b)
+    }
+
+    #[inline(always)]
+    fn is_near(a: &[u8], b: &[u8], radius: u32) -> bool {
+        is_sum_within(a, b, radius)
+    }
+
+    #[inline(always)]
+    fn unrolls_places(width: usize) -> bool {
+        width != 32
+    }
+
+    #[inline(always)]
+    fn unrolls_range(width: usize) -> bool {
+        width < 8
+    }
+}
+
+#[inline(always)]
 fn sum_of_differences(a: &[u8], b: &[u8]) -> u32
     requires same { length a.now ≡ length b.now }
     requires small { length a.now ≤ 512 }
@@ -49,10 +118,43 @@ fn sum_of_differences(a: &[u8], b: &[u8]) -> u32
     // The same bytes, now with the length of `a`, so that the compiler tests one length in place of two.
     let b = &b[..a.len()];
     let (blocks, a, b) = sum_of_blocks::<32>(a, b);
+    blocks + sum_of_part(a, b)
+}
+
+// Leaves off after the block of 32 bytes that takes the sum past the radius.
+#[inline(always)]
+fn is_sum_within<'a, 'b>(mut a: &'a [u8], mut b: &'b [u8], radius: u32) -> bool
+    requires same { length a.now ≡ length b.now }
+    requires small { length a.now ≤ 512 }
+    ensures { result ≡ nat_le (sum_apart a.now b.now) radius }
+{
+    let mut total = 0;
+    while let (Some((x, after_x)), Some((y, after_y))) = (
+        a.split_first_chunk::<32>(),
+        b.split_first_chunk::<32>(),
+    ) {
+        total += sum_of_bytes(x, y);
+        if total > radius {
+            return false;
+        }
+        a = after_x;
+        b = after_y;
+    }
+    total + sum_of_part(a, b) <= radius
+}
+
+// The sum over the fewer than 32 bytes that are left.
+#[inline(always)]
+fn sum_of_part(a: &[u8], b: &[u8]) -> u32
+    requires same { length a.now ≡ length b.now }
+    requires small { length a.now ≤ 512 }
+    ensures is { result ≡ sum_apart a.now b.now }
+    ensures small { result ≤ 255 * length a.now }
+{
     let (half, a, b) = sum_of_one_block::<16>(a, b);
     let (quarter, a, b) = sum_of_one_block::<8>(a, b);
     let rest = if a.is_empty() { 0 } else { sum_of_rest(a, b) };
-    blocks + half + quarter + rest
+    half + quarter + rest
 }
 
 // The sum over the fewer than 8 bytes that are left. Not inlined, so that a width that leaves none need not

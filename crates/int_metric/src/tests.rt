@@ -9,7 +9,13 @@ use std::test::Fail;
 use vec_record::{Metric, Steps, Vector};
 
 // The distance at a metric, and the greatest one at the width.
-fn measured<M: Metric, L: Ledger>(a: &Vector, b: &Vector, width: u32, blank: Blank) -> [u32; 2]
+fn measured<M: Metric, L: Ledger>(
+    rt: &HostRuntime,
+    a: &Vector,
+    b: &Vector,
+    width: u32,
+    blank: Blank,
+) -> [u32; 2]
     requires name { blank.name ≡ L.name }
     requires parts { blank.parts ≡ L.parts }
     requires some { 0 < blank.parts }
@@ -17,13 +23,13 @@ fn measured<M: Metric, L: Ledger>(a: &Vector, b: &Vector, width: u32, blank: Bla
     requires b { length b.now ≡ width }
     requires width { IsWidth width }
 {
-    let mut steps = Steps::<L>::new(blank);
+    let mut steps = Steps::<L>::new(rt, blank);
     [M::distance(a, b, &mut steps), M::greatest(width)]
 }
 
 // Bytes from `start` on, each by `step` above the one before and past 255 from 0 on again. The bits
 // of `flip` are turned in the last of them.
-fn rising(alloc: Global, width: u32, shape: [u8; 3]) -> Result<Vector, AllocError>
+pub(crate) fn rising(alloc: Global, width: u32, shape: [u8; 3]) -> Result<Vector, AllocError>
     ensures { IfOk result (λ v. length v ≡ width) }
 {
     let [start, step, flip] = shape;
@@ -61,9 +67,9 @@ fn distances_by_hand(rt: HostRuntime) -> Result<(), Fail> {
         assert!(rt; 1 <= width && width <= 512);
         let a = rising(rt.alloc(), width, first)?;
         let b = rising(rt.alloc(), width, second)?;
-        let sum = measured::<L1, Brand>(&a, &b, width, Blank::new(1));
-        let most = measured::<Max, Brand>(&a, &b, width, Blank::new(1));
-        let bits = measured::<Hamming, Brand>(&a, &b, width, Blank::new(1));
+        let sum = measured::<L1, Brand>(&rt, &a, &b, width, Blank::new(1));
+        let most = measured::<Max, Brand>(&rt, &a, &b, width, Blank::new(1));
+        let bits = measured::<Hamming, Brand>(&rt, &a, &b, width, Blank::new(1));
         assert_eq!(rt; [sum[0], most[0], bits[0]], distances);
         assert_eq!(rt; [sum[1], most[1], bits[1]], [255 * width, 255, 8 * width]);
     }

@@ -1,10 +1,12 @@
 -- Records kept as a list of entries.
-use Rattle.std.proofs.Common.{◌≡◌, ℕ, Bool, true, false, cond, ◌&&◌, List, [], ◌∷◌, length, refl, sym, ap, subst, ◌∙◌, None, Some, IfSome}
+use Rattle.std.proofs.Common.{◌≡◌, ℕ, Bool, true, false, cond, ◌&&◌, List, [], ◌∷◌, length, refl, sym, ap, subst, ◌∙◌, None, Some, IfSome, inl, inr, ◌≢◌}
 use Rattle.std.specs.declared.option.Option.{Option}
 use Rattle.std.specs.List.{AllByRecursion}
 use Rattle.std.specs.Option.{option_copied}
 use Rattle.std.specs.Ordering.{nat_cmp, is_lt, match_ordering}
-use Rattle.std.specs.Cmp.{nat_cmp_total, eq_by_cmp_equiv}
+use Rattle.std.specs.Cmp.{nat_cmp_total, eq_by_cmp_equiv, unsigned_tied}
+use Rattle.std.proofs.lemmas.Bool.Decides.{eqb_tells}
+use Rattle.std.specs.FinMap as map
 use Rattle.std.specs.Map.{lookup, remove_entry}
 use Rattle.std.specs.BTreeMap.{is_at, insert_entry}
 use Rattle.std.specs.declared.cmp.Ordering.TheVariants.{Less, Equal, Greater}
@@ -14,7 +16,7 @@ use lib.Dec.{T}
 use Rattle.std.specs.FinMap.{from_sorted, get-from_sorted, entries-from_sorted, entries, len, len-entries, is_sorted, keys, find, get, insert, remove, from_entries, get-from_entries, get-insert, get-remove, same_map, nat_cmp-IsAntisymmetric}
 use Rattle.std.proofs.Common.{Bor}
 use Rattle.vec_record.specs.Vectors.{IsVector}
-use Rattle.vec_record.specs.Held.{AreAll}
+use Rattle.vec_record.specs.Held.{Rows, AreAll, IsRecord, HaveWidth, NoneAtZero}
 
 abbrev pub Vectors : Type 0
 Vectors = List (ℕ × List ℕ)
@@ -41,18 +43,45 @@ one_taken es fs n h = same_map nat_cmp_total nat_cmp-IsAntisymmetric _ _ (λ q.
 
 pub found_vector : (w : ℕ) (test : ℕ → Bool) (es : Vectors) → AreAll w es → IfSome (lookup test es) (IsVector w)
 found_vector w test [] h = tt
-found_vector w test (e ∷ es) h = elim (test e.0) as (λ b. IfSome (cond b (Some e.1) (lookup test es)) (IsVector w)) [ true ↦ h.0 | false ↦ found_vector w test es h.1 ]
+found_vector w test (e ∷ es) h = elim (test e.0) as (λ b. IfSome (cond b (Some e.1) (lookup test es)) (IsVector w)) [ true ↦ h.0.vector | false ↦ found_vector w test es h.1 ]
+
+-- vectors that all have the width are found with the width
+pub have_width : (w : ℕ) (es : Vectors) → AreAll w es → HaveWidth w (from_entries es)
+have_width w es all number v is =
+    let there : vector_at es number ≡ Some v = sym (get_vector es number) ∙ is in
+    subst (λ (o : Option (List ℕ)). IfSome o (IsVector w)) there (found_vector w (is_at (nat_cmp number)) es all)
+
+not_at_zero : (w : ℕ) (es : Vectors) → AreAll w es → vector_at es 0 ≡ None
+not_at_zero w [] h = refl
+not_at_zero w (e ∷ es) h = rw (unsigned_tied 0 e.0) (elim (eqb_tells 0 e.0) [
+  | inl t ↦ absurd (h.0.number (sym t.1))
+  | inr f ↦ rw f.0 (not_at_zero w es h.1)
+])
+
+-- no record has the number 0
+pub none_at_zero : (w : ℕ) (es : Vectors) → AreAll w es → NoneAtZero (from_entries es)
+none_at_zero w es all = get_vector es 0 ∙ not_at_zero w es all
+
+-- a number under which a vector was found isn't 0
+pub some_number : {X : Type 0} (rows : Rows) (q : ℕ) (o : Option X) → NoneAtZero rows → (map.get rows q ≡ None → o ≡ None) → IfSome o (λ v. q ≢ 0)
+some_number rows q None none there = tt
+some_number rows q (Some v) none there = λ zero. absurd (let x : Some v ≡ None = there (ap (λ (k : ℕ). map.get rows k) zero ∙ none) in cc)
+
+-- the same of a vector that was lent
+pub lent_none : {X : Type 0} (o : Option (Bor X)) → option_copied o ≡ None → o ≡ None
+lent_none None e = refl
+lent_none (Some x) e = absurd (let x : Some x.now ≡ None = e in cc)
 
 pub all_removed : (w : ℕ) (test : ℕ → Bool) (es : Vectors) → AreAll w es → AreAll w (remove_entry test es)
 all_removed w test [] h = tt
 all_removed w test (e ∷ es) h = elim (test e.0) as (λ b. AreAll w (cond b es (e ∷ remove_entry test es))) [ true ↦ h.1 | false ↦ (h.0, all_removed w test es h.1) ]
 
-pub all_inserted : (w n : ℕ) (v : List ℕ) (es : Vectors) → IsVector w v → AreAll w es → AreAll w (insert_entry nat_cmp es n v)
+pub all_inserted : (w n : ℕ) (v : List ℕ) (es : Vectors) → IsRecord w (n, v) → AreAll w es → AreAll w (insert_entry nat_cmp es n v)
 all_inserted w n v [] i h = (i, tt)
 all_inserted w n v (e ∷ es) i h =
     elim (nat_cmp n e.0) as (λ o. AreAll w (match_ordering o ((n, v) ∷ e ∷ es) ((e.0, v) ∷ es) (e ∷ insert_entry nat_cmp es n v))) [
       | Less ↦ (i, h)
-      | Equal ↦ (i, h.1)
+      | Equal ↦ (record { number = h.0.number; vector = i.vector }, h.1)
       | Greater ↦ (h.0, all_inserted w n v es i h.1)
     ]
 
@@ -89,3 +118,7 @@ len_held es h = ap length (sym (entries_held es h)) ∙ sym (len-entries (from_e
 
 pub keys_held : (es : Vectors) → IsStrictlySortedBy nat_cmp (keys_of es) → keys_of es ≡ keys (from_entries {R = nat_cmp} es)
 keys_held es h = ap keys_of (sym (entries_held es h))
+
+pub numbered : (w : ℕ) (es : Vectors) → AreAll w es → AllByRecursion (λ q. q ≢ 0) (keys_of es)
+numbered w [] h = tt
+numbered w (e ∷ es) h = (h.0.number, numbered w es h.1)

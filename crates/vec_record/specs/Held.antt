@@ -1,5 +1,5 @@
 -- What records are: a width, and a map from numbers to lists of bytes.
-use Rattle.std.specs.Prelude.{◌≡◌, ℕ, List, Some, refl}
+use Rattle.std.specs.Prelude.{◌≡◌, ◌≢◌, ℕ, List, None, Some, refl}
 use Rattle.std.specs.List.{AllByRecursion}
 use Rattle.std.specs.Coded.{Coded, code_by, coded×, coded_ℕ, coded_list}
 use Rattle.std.specs.Ordering.{nat_cmp}
@@ -20,10 +20,19 @@ abbrev pub held_code : Coded Held
 held_code =
     code_by (ℕ × Rows) (coded× coded_ℕ (map.code coded_ℕ (coded_list coded_ℕ))) (λ h. (h.width, h.vectors)) (λ p. record { width = p.0; vectors = p.1 }) (λ _. refl)
 
--- each entry has a vector of the width
+-- a number, which is never 0, and a vector of the width
+pub record IsRecord (width : ℕ) (e : ℕ × List ℕ) : Type 0 where
+  pub number : e.0 ≢ 0
+  pub vector : IsVector width e.1
+
+-- each entry is a record of the width
 abbrev pub AreAll : ℕ → List (ℕ × List ℕ) → Type 0
-AreAll width es = AllByRecursion (λ e. IsVector width e.1) es
+AreAll width es = AllByRecursion (IsRecord width) es
 
 -- each vector has the width
 abbrev pub HaveWidth : ℕ → Rows → Type 0
 HaveWidth width rows = (number : ℕ) (v : List ℕ) → map.get rows number ≡ Some v → IsVector width v
+
+-- no vector has the number 0
+abbrev pub NoneAtZero : Rows → Type 0
+NoneAtZero rows = map.get rows 0 ≡ None

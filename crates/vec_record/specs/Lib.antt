@@ -4,3 +4,6 @@ pub mod Distance
 pub mod Limits
 pub mod Held
 pub mod Spelled
+pub mod Table
+pub mod Asked
+pub mod inside

@@ -6,9 +6,11 @@
 //! on the caller's [`Steps`].
 #![tactic(auto)]
 
+pub mod block;
 pub mod bytes;
 pub mod change;
 pub mod event;
+pub mod groups;
 pub mod kind;
 pub mod metric;
 pub mod numbers;
@@ -17,9 +19,11 @@ pub mod records;
 pub mod steps;
 pub mod vector;
 
+pub use block::Block;
 pub use bytes::Bytes;
 pub use change::{Change, Changes};
 pub use event::{Event, Events, Kind};
+pub use groups::Groups;
 pub use kind::MetricKind;
 pub use metric::Metric;
 pub use numbers::{Number, Numbers};

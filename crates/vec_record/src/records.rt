@@ -1,13 +1,15 @@
 ghost use Rattle.std.specs.Prelude.{◌≡◌, ◌≢◌, length, None, IfOk, IfSome, OnOk, OnErr};
+ghost use Rattle.std.specs.List.{AllByRecursion};
 ghost use Rattle.std.specs.Option.{option_copied};
 ghost use Rattle.std.specs.FinMap as map;
 ghost use Rattle.vec_record.specs.Vectors.{IsVector, IsWidth};
-ghost use Rattle.vec_record.specs.Held.{Held, AreAll, HaveWidth};
+ghost use Rattle.vec_record.specs.Held.{Held, AreAll, HaveWidth, NoneAtZero};
 
 use crate::numbers::{Number, Numbers};
 use crate::vector::Vector;
 use std::alloc::{AllocError, Global};
 use std::collections::BTreeMap;
+use std::collections::btree_map::Iter;
 use std::marker::Model;
 
 /// Vectors of one width under their numbers, seen as a finite map beside the width.
@@ -49,6 +51,8 @@ impl Records {
     pub fn width(&self) -> u32
         ensures value { result ≡ self.now.width }
         ensures width { IsWidth self.now.width }
+        ensures vectors { HaveWidth self.now.width self.now.vectors }
+        ensures numbers { NoneAtZero self.now.vectors }
     {
         self.width
     }
@@ -57,6 +61,7 @@ impl Records {
     pub fn get(&self, number: Number) -> Option<&Vector>
         ensures value { option_copied result ≡ map.get self.now.vectors number }
         ensures vector { IfSome result (λ v. IsVector self.now.width v.now) }
+        ensures number { IfSome result (λ v. number ≢ 0) }
         ensures width { IsWidth self.now.width }
     {
         self.vectors.get(&number)
@@ -78,6 +83,7 @@ impl Records {
     /// Takes a record out; `None` exactly where the number is absent.
     pub fn remove(&mut self, number: Number) -> Option<Vector>
         ensures value { result ≡ map.get self.old.vectors number }
+        ensures number { IfSome result (λ v. number ≢ 0) }
         ensures rest { self.new ≡ record self.old { vectors = map.remove self.old.vectors number } }
     {
         self.vectors.remove(&number)
@@ -89,9 +95,19 @@ impl Records {
         self.vectors.len()
     }
 
+    /// The numbers and their vectors by rising number: one walk, which takes no memory.
+    pub fn iter(&self) -> Iter<'_, Number, Vector>
+        ensures rest { result ≡ map.entries self.now.vectors }
+        ensures records { AreAll self.now.width (map.entries self.now.vectors) }
+        ensures width { IsWidth self.now.width }
+    {
+        self.vectors.iter()
+    }
+
     /// The numbers, rising.
     pub fn numbers(&self) -> Result<Numbers, AllocError>
-        ensures { IfOk result (λ n. n ≡ map.keys self.now.vectors) }
+        ensures numbers { IfOk result (λ n. n ≡ map.keys self.now.vectors) }
+        ensures none { IfOk result (λ n. AllByRecursion (λ q. q ≢ 0) n) }
     {
         let mut numbers = Numbers::new(self.alloc);
         for number in self.vectors.keys() {
@@ -107,10 +123,8 @@ impl Records {
         ensures vectors { HaveWidth self.now.width self.now.vectors }
     {
         let mut vectors = BTreeMap::new(self.alloc);
-        for key in self.vectors.keys() {
-            if let Some(vector) = self.vectors.get(key) {
-                vectors.insert(*key, vector.copy()?)?;
-            }
+        for (number, vector) in self.vectors.iter() {
+            vectors.insert(*number, vector.copy()?)?;
         }
         Ok(Records {
             alloc: self.alloc,

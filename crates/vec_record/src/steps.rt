@@ -3,7 +3,7 @@ ghost use Rattle.std.specs.Prelude.{◌≡◌, ◌+◌, ◌<◌};
 use std::marker::Model;
 use std::sync::ledger::{Blank, Book, Ledger, Share};
 
-/// How many distances were computed. It takes no memory and no time, and only `tick` changes it.
+/// How many distances were computed. It takes no memory and no time, and only `tick` and `tick_many` change it.
 #[derive(Drop)]
 pub struct Steps<L: Ledger> {
     book: Book<L>,
@@ -21,8 +21,9 @@ impl<L: Ledger> Model for Steps<L> {
 }
 
 impl<L: Ledger> Steps<L> {
-    /// A count that begins at 0.
-    pub fn new(blank: Blank) -> Steps<L>
+    /// A count that begins at 0. Only a program's `main` and tests hold the runtime, so no library
+    /// that is given an allocator alone can count distances elsewhere.
+    pub fn new(_rt: &HostRuntime, blank: Blank) -> Steps<L>
         requires name { blank.name ≡ L.name }
         requires parts { blank.parts ≡ L.parts }
         requires some { 0 < blank.parts }
@@ -37,5 +38,12 @@ impl<L: Ledger> Steps<L> {
         ensures { self.new ≡ self.old + 1 }
     {
         self.book.add(&mut self.share, 1);
+    }
+
+    /// Counts several distances at once.
+    pub fn tick_many(&mut self, many: usize)
+        ensures { self.new ≡ self.old + many }
+    {
+        self.book.add(&mut self.share, many as u64);
     }
 }

@@ -1,4 +1,4 @@
-ghost use Rattle.std.specs.Prelude.{◌≡◌, ◌≤◌, length, IfOk, IfSome, IfNone};
+ghost use Rattle.std.specs.Prelude.{◌≡◌, ◌↔◌, ◌≤◌, length, IfOk, IfSome, IsSome};
 ghost use Rattle.vec_record.specs.Vectors.{AreBytes};
 ghost use Rattle.vec_record.specs.Place.{bytes_of, IsWithin};
 
@@ -78,7 +78,8 @@ impl Vector {
 
 // The bytes in the value itself, if they are few enough.
 fn short(bytes: &[u8]) -> Option<Place>
-    ensures { IfSome result (λ p. (bytes_of p ≡ bytes.now) × IsWithin p) }
+    ensures few { IsSome result ↔ length bytes.now ≤ 30 }
+    ensures place { IfSome result (λ p. (bytes_of p ≡ bytes.now) × IsWithin p) }
 {
     if bytes.len() > SHORT {
         return None;
@@ -93,7 +94,7 @@ fn short(bytes: &[u8]) -> Option<Place>
 
 /// A slice of bytes holds numbers below 256 alone.
 #[inline]
-fn known(bytes: &[u8]) -> &[u8]
+pub(crate) fn known(bytes: &[u8]) -> &[u8]
     ensures same { result.now ≡ bytes.now }
     ensures bytes { AreBytes bytes.now }
 {

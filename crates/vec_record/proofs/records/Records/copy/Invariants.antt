@@ -1,6 +1,5 @@
-use Rattle.vec_record.specs.Held.{AreAll}
-use Rattle.vec_record.proofs.Copies.{IsCopied}
+use Rattle.std.proofs.Common.{◌≡◌, ◌++◌}
 use Rattle.vec_record.proofs.records.Records.copy.Given as goal
 
-abbrev pub invariant-loop-key : goal.invariant-loop-key
-invariant-loop-key l = IsCopied l.self-inside.vectors.entries l.vectors.entries l.key-iterator × AreAll l.self-inside.width l.vectors.entries
+abbrev pub invariant-loop-number : goal.invariant-loop-number
+invariant-loop-number l = l.vectors.entries ++ l.number-iterator ≡ l.self-inside.vectors.entries

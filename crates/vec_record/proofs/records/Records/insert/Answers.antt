@@ -7,7 +7,10 @@ pub invariant_of-self-2 : goal.invariant_of-self-2
 invariant_of-self-2 c = (
   c.self.invariant.0,
   rw c.in_ok-insert.ensures.entries (all_inserted _ _ _ _
-      (record { len = c.requires.width ∙ ap (λ s. s.width) (sym c.self.view_is); bytes = c.as_slice.ensures.bytes }) c.self.invariant.1),
+      (record {
+        number = c.requires.number;
+        vector = record { len = c.requires.width ∙ ap (λ s. s.width) (sym c.self.view_is); bytes = c.as_slice.ensures.bytes };
+      }) c.self.invariant.1),
 )
 
 pub returns-clause-ok : goal.returns-clause-ok
