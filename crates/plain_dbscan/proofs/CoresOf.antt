@@ -1,17 +1,19 @@
 -- The cores of records, their labels and their anchors.
-use Rattle.std.proofs.Common.{◌≡◌, ℕ, ◌<◌, Bool, true, false, ◌&&◌, List, [], ◌∷◌, map, IsTrue, None, Some, if◌then◌else◌, sym, ap, subst, ◌∙◌, inl, inr, arith}
+use Rattle.std.proofs.Common.{◌≡◌, ℕ, ◌<◌, ◌≤◌, Bool, true, false, ◌&&◌, List, [], ◌∷◌, map, IsTrue, None, Some, if◌then◌else◌, sym, ap, subst, ◌∙◌, inl, inr, arith}
 use lib.Dec.{T}
-use Rattle.std.specs.Prelude.{nat_le}
+use Rattle.std.specs.Prelude.{nat_le, find}
 use Rattle.std.specs.List.{list_any}
 use Rattle.std.specs.Ordering.{nat_cmp, eq_by_cmp, is_lt}
 use Rattle.std.specs.Option.{is_some}
 use Rattle.std.specs.FinMap.Entries.{below_all, is_sorted, find as value_at, is_some-find}
+use Rattle.std.proofs.lemmas.Bool.{cases_Bool}
 use Rattle.std.proofs.lemmas.Bool.Decides.{nat_tests}
+use Rattle.std.proofs.lemmas.Option.{none-some}
 use Rattle.plain_dbscan.specs.Chains.{IsLabel, IsAnchor}
 use Rattle.plain_dbscan.specs.Marks.{Entries, numbers_of, Density, is_near, is_core, size_of, cores_of, cluster_of, anchor_of, outer_mark, mark_of}
 use Rattle.plain_dbscan.specs.declared.marks.Mark.TheVariants.{Core}
 use Rattle.plain_dbscan.proofs.Chains.{Member, AreCores, first_of_both, either, left_or, right_or}
-use Rattle.plain_dbscan.proofs.Members.{member_filter, passes_in, Rises, rises_filter, find_fails, find_first}
+use Rattle.plain_dbscan.proofs.Members.{member_filter, passes_in, Rises, rises_filter, member_at, first_of, find_none, find_fails, find_first}
 use Rattle.plain_dbscan.proofs.LeastLabels.{label_is, label_of_is}
 
 first_T : (p q : Bool) → T (p && q) → T p
@@ -75,6 +77,12 @@ module _ (d : Density) (rows : Entries) where
   pub other_mark : (a : ℕ) → is_core d rows a ≡ false → mark_of d rows a ≡ outer_mark d rows (anchor_of d rows a)
   other_mark a h = ap (λ b. if b then Core (cluster_of d rows a) else outer_mark d rows (anchor_of d rows a)) h
 
+  pub core_anchor : (a : ℕ) → IsTrue (is_core d rows a) → anchor_of d rows a ≡ None
+  core_anchor a h = ap (λ b. if b then None else find (is_near d rows a) (cores_of d rows)) h
+
+  pub other_anchor : (a : ℕ) → is_core d rows a ≡ false → anchor_of d rows a ≡ find (is_near d rows a) (cores_of d rows)
+  other_anchor a h = ap (λ b. if b then None else find (is_near d rows a) (cores_of d rows)) h
+
   module _ (sorted : T (is_sorted nat_cmp rows)) where
     pub rises_cores : Rises (cores_of d rows)
     rises_cores = rises_filter (is_core d rows) (numbers_of rows) (rises_sorted rows sorted)
@@ -86,15 +94,34 @@ module _ (d : Density) (rows : Entries) where
     pub is_cluster : (a b : ℕ) → IsLabel (is_core d rows) (is_near d rows) a b → cluster_of d rows a ≡ b
     is_cluster a b h = label_of_is (is_core d rows) (is_near d rows) (cores_of d rows) are_cores rises_cores a b h
 
-    -- the anchor is the least core near a record, and where there is none, no core is near it
+    -- the anchor is the least core near a record that is no core
     pub anchor_is : (a b : ℕ) → anchor_of d rows a ≡ Some b → IsAnchor (is_core d rows) (is_near d rows) a b
-    anchor_is a b found =
-        let at = find_first (is_near d rows a) (cores_of d rows) b rises_cores found in
-        record {
-          is_core = are_cores.each b at.member;
-          is_near = at.passes;
-          least = λ c h n. at.least c (are_cores.all c h) n;
-        }
+    anchor_is a b found = elim (cases_Bool (is_core d rows a)) [
+      | inl core ↦ absurd (none-some b (sym (core_anchor a core) ∙ found))
+      | inr other ↦
+          let at = find_first (is_near d rows a) (cores_of d rows) b rises_cores (sym (other_anchor a other) ∙ found) in
+          record {
+            no_core = other;
+            is_core = are_cores.each b at.member;
+            is_near = at.passes;
+            least = λ c h n. at.least c (are_cores.all c h) n;
+          }
+    ]
 
-  pub no_anchor : (a : ℕ) → anchor_of d rows a ≡ None → (c : ℕ) → IsTrue (is_core d rows c) → is_near d rows a c ≡ false
-  no_anchor a none c h = find_fails (is_near d rows a) (cores_of d rows) none c (are_cores.all c h)
+    -- and what is so is the anchor
+    pub is_anchor : (a b : ℕ) → IsAnchor (is_core d rows) (is_near d rows) a b → anchor_of d rows a ≡ Some b
+    is_anchor a b h =
+        let first = first_of (is_near d rows a) (cores_of d rows) b rises_cores (are_cores.all b h.is_core) h.is_near in
+        let up : first.0 ≤ b = first.1.least b (are_cores.all b h.is_core) h.is_near in
+        let down : b ≤ first.0 = h.least first.0 (are_cores.each first.0 first.1.member) first.1.passes in
+        let same : first.0 ≡ b = omega (arith, up, down) in
+        other_anchor a h.no_core ∙ first.1.found ∙ ap Some same
+
+  -- where no core is near a record that is no core, there is none
+  pub none_anchor : (a : ℕ) → is_core d rows a ≡ false → ((c : ℕ) → IsTrue (is_core d rows c) → is_near d rows a c ≡ false) → anchor_of d rows a ≡ None
+  none_anchor a other off =
+      other_anchor a other ∙ find_none (is_near d rows a) (cores_of d rows) (λ k h. off _ (are_cores.each _ (member_at (cores_of d rows) k h)))
+
+  -- and where there is none, no core is near such a record
+  pub no_anchor : (a : ℕ) → is_core d rows a ≡ false → anchor_of d rows a ≡ None → (c : ℕ) → IsTrue (is_core d rows c) → is_near d rows a c ≡ false
+  no_anchor a other none c h = find_fails (is_near d rows a) (cores_of d rows) (sym (other_anchor a other) ∙ none) c (are_cores.all c h)

@@ -3,9 +3,12 @@ pub mod Members
 pub mod LeastLabels
 pub mod CoresOf
 pub mod Lawful
+pub mod Classes
+pub mod OneMore
 pub mod PointsOf
 pub mod Merging
 pub mod Places
+pub mod Packed
 pub mod Bounds
 pub mod MarksOf
 pub mod CasesOf

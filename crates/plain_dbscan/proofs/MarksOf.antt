@@ -22,7 +22,7 @@ use Rattle.plain_dbscan.specs.Points.{entries_of, IsOfWidth, AreOfWidth, is_clos
 use Rattle.plain_dbscan.specs.Merging.{is_there, AreLabels}
 use Rattle.plain_dbscan.proofs.Chains.{label_kept, first_of_both}
 use Rattle.plain_dbscan.proofs.Members.{find_at, find_none, same_list}
-use Rattle.plain_dbscan.proofs.CoresOf.{is_cluster, core_mark, other_mark}
+use Rattle.plain_dbscan.proofs.CoresOf.{is_cluster, other_anchor, core_mark, other_mark}
 use Rattle.plain_dbscan.proofs.PointsOf.{IsIn, all_in, is_in, number_read, near_by_vectors, numbers_filtered}
 use Rattle.plain_dbscan.proofs.Places.{none_passes, is_next}
 
@@ -157,21 +157,21 @@ module _ (d : Density) (points cores : List Point) (labels : List ℕ) (sorted :
       let x = get_or cores j q in
       ap (is_near d rows p.number) (core_number j x h (get_or_default cores j q x h)) ∙ near_by_vectors d rows p x hp (cores_in j q h)
 
-  outer_by_place : (p : Point) → IsIn rows p → (o : Option ℕ) → position (is_close d.dist d.eps p.vector.now) cores ≡ o → mark_by_place labels o ≡ outer_mark d rows (anchor_of d rows p.number)
-  outer_by_place p hp None e =
-      sym (ap (outer_mark d rows) (find_none (is_near d rows p.number) (cores_of d rows) (λ k h.
+  outer_by_place : (p : Point) → IsIn rows p → is_core d rows p.number ≡ false → (o : Option ℕ) → position (is_close d.dist d.eps p.vector.now) cores ≡ o → mark_by_place labels o ≡ outer_mark d rows (anchor_of d rows p.number)
+  outer_by_place p hp off None e =
+      sym (ap (outer_mark d rows) (other_anchor d rows p.number off ∙ find_none (is_near d rows p.number) (cores_of d rows) (λ k h.
       let lt : k < length cores = omega (arith, count_cores) in
       near_core p hp k p lt ∙ none_passes (is_close d.dist d.eps p.vector.now) cores e k p lt)))
-  outer_by_place p hp (Some j) e =
+  outer_by_place p hp off (Some j) e =
       let at = position-Some (is_close d.dist d.eps p.vector.now) cores j p e in
       let q = get_or cores j p in
       let qj : q ≡ get_or cores j q = get_or_default cores j p q at.0 in
       let found : anchor_of d rows p.number ≡ Some (get_or (cores_of d rows) j 0) =
-      find_at (is_near d rows p.number) (cores_of d rows) j (omega (arith, count_cores, at.0)) (λ k h. near_core p hp k p (omega (arith, at.0)) ∙ at.2 k h) (near_core p hp j p at.0 ∙ at.1) in
+      other_anchor d rows p.number off ∙ find_at (is_near d rows p.number) (cores_of d rows) j (omega (arith, count_cores, at.0)) (λ k h. near_core p hp k p (omega (arith, at.0)) ∙ at.2 k h) (near_core p hp j p at.0 ∙ at.1) in
       ap Border (label_at j q at.0 qj) ∙ sym (ap (outer_mark d rows) (found ∙ ap Some (core_number j q at.0 qj)))
 
   pub unmet_mark : (i : ℕ) (p : Point) → i < length points → p ≡ get_or points i p → is_core d rows p.number ≡ false → mark_by_place labels (position (is_close d.dist d.eps p.vector.now) cores) ≡ mark_of d rows p.number
-  unmet_mark i p h is off = outer_by_place p (is_in points i p sorted h is) (position (is_close d.dist d.eps p.vector.now) cores) refl ∙ sym (other_mark d rows p.number off)
+  unmet_mark i p h is off = outer_by_place p (is_in points i p sorted h is) off (position (is_close d.dist d.eps p.vector.now) cores) refl ∙ sym (other_mark d rows p.number off)
 
 -- the cores among points: their vectors, their order and how many they are
 pub same_width : (w : ℕ) (cores : List Point) (p : Point) → AreOfWidth w cores → IsOfWidth w p → AreOfWidth (length p.vector.now) cores

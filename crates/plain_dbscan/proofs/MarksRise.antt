@@ -12,6 +12,7 @@ use Rattle.plain_dbscan.specs.declared.marks.Mark.TheVariants.{Noise}
 use Rattle.plain_dbscan.specs.Marks.{Density, Entries, numbers_of, is_near, is_core, cores_of, outer_mark, mark_of, marks_of}
 use Rattle.plain_dbscan.specs.Cases.{Listed, mark_at, mark_in}
 use Rattle.plain_dbscan.proofs.Members.{find_none}
+use Rattle.plain_dbscan.proofs.CoresOf.{other_anchor, other_mark}
 
 -- each number with a mark of it
 abbrev with_marks : (ℕ → Mark) → Entries → Listed
@@ -52,7 +53,7 @@ absent_noise : (d : Density) (rows : Entries) (a : ℕ) → value_at nat_cmp a r
 absent_noise d rows a none =
     let off : is_core d rows a ≡ false = rw none refl in
     let alone : find (is_near d rows a) (cores_of d rows) ≡ None = find_none (is_near d rows a) (cores_of d rows) (λ k h. rw none refl) in
-    rw off (ap (outer_mark d rows) alone)
+    other_mark d rows a off ∙ ap (outer_mark d rows) (other_anchor d rows a off ∙ alone)
 
 mark_or_noise : (d : Density) (rows : Entries) (a : ℕ) (o : Option (List ℕ)) → value_at nat_cmp a rows ≡ o → unwrap_or (cond (is_some o) (Some (mark_of d rows a)) None) Noise ≡ mark_of d rows a
 mark_or_noise d rows a None e = sym (absent_noise d rows a e)

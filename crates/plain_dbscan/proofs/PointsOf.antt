@@ -6,10 +6,11 @@ use Rattle.std.specs.List.{All}
 use Rattle.std.specs.Ordering.{nat_cmp, eq_by_cmp}
 use Rattle.std.specs.FinMap.Entries.{is_sorted, find as value_at}
 use Rattle.std.proofs.lemmas.Bool.Decides.{nat_tests}
-use Rattle.std.proofs.lemmas.List.{get_or-map, get_or_default, length-map, map-append, take_more}
+use Rattle.std.proofs.lemmas.List.{get_or-map, get_or_default, length-map, map-append}
 use Rattle.std.proofs.lemmas.List.Sums.{length-filter}
 use Rattle.std.proofs.lemmas.List.Elements.{All-head, All-tail, filter_more}
 use Rattle.vec_record.specs.Vectors.{IsVector, IsWidth}
+use Rattle.vec_record.specs.Held.{AreAll}
 use Rattle.plain_dbscan.specs.declared.points.Point.{Point}
 use Rattle.plain_dbscan.specs.Marks.{Entries, numbers_of, Density, is_near, is_core, size_of, within}
 use Rattle.plain_dbscan.specs.Points.{entries_of, IsOfWidth, AreOfWidth, is_close, is_core_point}
@@ -97,23 +98,16 @@ append_nil (x ∷ xs) = ap (λ ys. x ∷ ys) (append_nil xs)
 pub filter_out : {X : Type 0} (test : X → Bool) (xs : List X) (i : ℕ) (x : X) → i < length xs → x ≡ get_or xs i x → test x ≡ false → filter test (take (i + 1) xs) ≡ filter test (take i xs)
 filter_out test xs i x h is fails = filter_more test xs i x h ∙ ap (λ y. filter test (take i xs) ++ cond (test y) (y ∷ []) []) (sym is) ∙ ap (λ b. filter test (take i xs) ++ cond b (x ∷ []) []) fails ∙ append_nil _
 
-pair_is : (e : ℕ × List ℕ) (a : ℕ) (v : List ℕ) → e.0 ≡ a → e.1 ≡ v → e ≡ (a, v)
-pair_is e a v h k = ap (λ (x : ℕ). let p : ℕ × List ℕ = (x, e.1) in p) h ∙ ap (λ (u : List ℕ). let p : ℕ × List ℕ = (a, u) in p) k
+-- the points are all records once none is left, and have their width
+points_wide : (w : ℕ) (points : List Point) → IsWidth w → AreAll w (entries_of points) → (k : ℕ) (p : Point) → k < length points → IsOfWidth w (get_or points k p)
+points_wide w [] lawful all k p h = absurd (omega arith)
+points_wide w (q ∷ qs) lawful all zero p h = record { lawful = lawful; vector = all.0.vector }
+points_wide w (q ∷ qs) lawful all (suc k) p h = points_wide w qs lawful all.1 k p (omega arith)
 
--- the records so far, and one more
-pub entries_more : (es : Entries) (i : ℕ) (v : List ℕ) → T (is_sorted nat_cmp es) → i < length (numbers_of es) → value_at nat_cmp (get_or (numbers_of es) i 0) es ≡ Some v → take (i + 1) es ≡ take i es ++ (get_or (numbers_of es) i 0, v) ∷ []
-entries_more es i v sorted h is =
-    let lt : i < length es = simp length-map at h in
-    let value : Some v ≡ Some (get_or es i (0, [])).1 = sym is ∙ value_at_place es i (rises_sorted es sorted) lt in
-    let same : v ≡ (get_or es i (0, [])).1 = cc in
-    let number = get_or-map (λ (e : ℕ × List ℕ). e.0) es i (0, []) 0 lt in
-    take_more es i (0, []) lt ∙ ap (λ (e : ℕ × List ℕ). take i es ++ e ∷ []) (pair_is (get_or es i (0, [])) _ v (sym number) (sym same))
-
-pub always_found : (es : Entries) (i : ℕ) → T (is_sorted nat_cmp es) → i < length (numbers_of es) → value_at nat_cmp (get_or (numbers_of es) i 0) es ≡ None → ⊥
-always_found es i sorted h none =
-    let lt : i < length es = simp length-map at h in
-    let value : Some (get_or es i (0, [])).1 ≡ None = sym (value_at_place es i (rises_sorted es sorted) lt) ∙ none in
-    cc
+pub all_wide : (w : ℕ) (points : List Point) (left es : Entries) → IsWidth w → AreAll w es → entries_of points ++ left ≡ es → left ≡ [] → AreOfWidth w points
+all_wide w points left es lawful all is none =
+    let are : entries_of points ≡ es = sym (append_nil (entries_of points)) ∙ ap (λ (rest : Entries). entries_of points ++ rest) (sym none) ∙ is in
+    points_wide w points lawful (subst (AreAll w) (sym are) all)
 
 pub entries-append : (ps : List Point) (p : Point) → entries_of (ps ++ p ∷ []) ≡ entries_of ps ++ (p.number, p.vector.now) ∷ []
 entries-append ps p = map-append _ ps (p ∷ [])

@@ -1,5 +1,5 @@
 -- Cores, which of them are near each other, and what chains of near cores join.
-use Rattle.std.specs.Prelude.{◌≡◌, ℕ, ◌≤◌, Bool, List, [], ◌∷◌, ◌==◌, ◌&&◌, ◌||◌, IsTrue, unwrap_or, find}
+use Rattle.std.specs.Prelude.{◌≡◌, ℕ, ◌≤◌, Bool, false, List, [], ◌∷◌, ◌==◌, ◌&&◌, ◌||◌, IsTrue, unwrap_or, find}
 
 -- A chain of cores leads from a through the further cores of the list to b: each is near the one before.
 abbrev pub IsChain : (ℕ → Bool) → (ℕ → ℕ → Bool) → ℕ → List ℕ → ℕ → Type 0
@@ -18,6 +18,7 @@ pub record IsLabel (core : ℕ → Bool) (near : ℕ → ℕ → Bool) (a b : �
 
 -- The anchor of a record that is no core is the least core near it.
 pub record IsAnchor (core : ℕ → Bool) (near : ℕ → ℕ → Bool) (a b : ℕ) : Type 0 where
+  pub no_core : core a ≡ false
   pub is_core : IsTrue (core b)
   pub is_near : IsTrue (near a b)
   pub least : (c : ℕ) → IsTrue (core c) → IsTrue (near a c) → b ≤ c

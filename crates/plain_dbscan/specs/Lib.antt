@@ -7,3 +7,4 @@ pub mod Merging
 pub mod Cases
 pub mod Across
 pub mod Index
+pub mod Change

@@ -62,9 +62,9 @@ cores_of d rows = filter (is_core d rows) (numbers_of rows)
 abbrev pub cluster_of : Density → Entries → ℕ → ℕ
 cluster_of d rows a = label_of (is_core d rows) (is_near d rows) (cores_of d rows) a
 
--- The anchor of a record that is no core: the least core near it, or none.
+-- The anchor of a record that is no core: the least core near it, or none. A core has none.
 abbrev pub anchor_of : Density → Entries → ℕ → Option ℕ
-anchor_of d rows a = find (is_near d rows a) (cores_of d rows)
+anchor_of d rows a = if is_core d rows a then None else find (is_near d rows a) (cores_of d rows)
 
 -- The mark of a record that is no core: a border with the label of its anchor, or noise without one.
 abbrev pub outer_mark : Density → Entries → Option ℕ → Mark
@@ -73,7 +73,8 @@ outer_mark d rows (Some b) = Border (cluster_of d rows b)
 
 -- The mark of a record: a core with its own label, or what its anchor makes it.
 abbrev pub mark_of : Density → Entries → ℕ → Mark
-mark_of d rows a = if is_core d rows a then Core (cluster_of d rows a) else outer_mark d rows (anchor_of d rows a)
+mark_of d rows a =
+    if is_core d rows a then Core (cluster_of d rows a) else outer_mark d rows (anchor_of d rows a)
 
 -- Each number with its mark, rising.
 abbrev pub marks_of : Density → Entries → List (ℕ × Mark)

@@ -1,7 +1,8 @@
 -- Points in a list, and the records that they are. No public contract cites these.
-use Rattle.std.specs.Prelude.{ℕ, Bool, List, Option, Some, None, map, nat_le, slice_index}
+use Rattle.std.specs.Prelude.{◌≡◌, ℕ, Bool, List, Option, Some, None, map, nat_le, slice_index}
 use Rattle.std.specs.List.{All}
 use Rattle.vec_record.specs.Vectors.{IsVector, IsWidth}
+use Rattle.vec_record.specs.Table.{Table}
 use Rattle.plain_dbscan.specs.declared.points.Point.{Point}
 use Rattle.plain_dbscan.specs.declared.marks.Mark.{Mark}
 use Rattle.plain_dbscan.specs.declared.marks.Mark.TheVariants.{Border, Noise}
@@ -28,6 +29,15 @@ pub record OfOneWidth (points : List Point) : Type 0 where
 -- whether a point is at most eps from a vector
 abbrev pub is_close : (List ℕ → List ℕ → ℕ) → ℕ → List ℕ → Point → Bool
 is_close dist eps v p = nat_le (dist v p.vector.now) eps
+
+-- rows are the vectors of points, which have their width
+pub record ArePacked (points : List Point) (t : Table) : Type 0 where
+  pub width : AreOfWidth t.width points
+  pub rows : t.rows ≡ map (λ (p : Point). p.vector.now) points
+
+-- whether a row is at most eps from a vector
+abbrev pub is_near_row : (List ℕ → List ℕ → ℕ) → ℕ → List ℕ → List ℕ → Bool
+is_near_row dist eps v row = nat_le (dist v row) eps
 
 -- whether a point is a core of the records
 abbrev pub is_core_point : Density → Entries → Point → Bool

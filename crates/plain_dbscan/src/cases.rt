@@ -1,3 +1,5 @@
+//! The events of one change, from the marks before and after it.
+
 ghost use Rattle.std.specs.Prelude.{◌≡◌, ◌++◌, ◌||◌, ℕ, filter, map, is_some, IfOk, OnOk};
 ghost use Rattle.std.specs.List.{list_any};
 ghost use Rattle.std.specs.Ordering.{nat_cmp};
@@ -6,9 +8,8 @@ ghost use Rattle.std.specs.FinMap.Entries.{is_sorted};
 ghost use lib.Dec.{T};
 ghost use Rattle.plain_dbscan.specs.Cases.{new_number, clusters_of, growth, decline, insertion_events, deletion_events, cases_of};
 ghost use Rattle.plain_dbscan.specs.Across.{both_marks, is_core_alone, is_core_alone_of, is_in_both, is_label, labels_in, changed_in};
-ghost use Rattle.plain_dbscan.specs.Texts.{names_cluster};
 
-use crate::marks::{Mark, Marks, find_mark};
+use crate::marks::{Mark, Marks, find_mark, names_cluster};
 use std::alloc::{AllocError, Global};
 use std::collections::BTreeSet;
 use vec_record::{Event, Events, Kind, Number};
@@ -123,16 +124,6 @@ fn labels_beyond(
     Ok(labels)
 }
 
-/// Whether a number with its mark is a core that is its own label.
-fn is_cluster(number: Number, mark: Mark) -> bool
-    ensures { result ≡ names_cluster (number, mark) }
-{
-    match mark {
-        Mark::Core(label) => label == number,
-        _ => false,
-    }
-}
-
 /// The clusters of a list whose labels are in a set, rising.
 fn clusters_among(
     alloc: Global,
@@ -143,7 +134,7 @@ fn clusters_among(
 {
     let mut found = Vec::new(alloc);
     for &(number, mark) in marks {
-        if is_cluster(number, mark) && labels.contains(&number) {
+        if names_cluster(number, mark) && labels.contains(&number) {
             found.push(number)?;
         }
     }

@@ -1,3 +1,5 @@
+//! What an index by distance promises.
+
 ghost use Rattle.std.specs.Prelude.{◌≡◌, ℕ, ◌+◌, ◌<◌, ◌≤◌, ◌↔◌, List, length, None, Some, Ok, OnOk, IfOk, IsTrue, true, false};
 ghost use Rattle.std.specs.FinMap as map;
 ghost use Rattle.vec_record.specs.Vectors.{IsWidth};
@@ -23,10 +25,10 @@ pub trait RangeIndex<M: Metric> {
     ghost cost: { Self → List ℕ → ℕ → ℕ };
 
     /// An index before and after an insertion of a number and a vector.
-    ghost grown: { Self → Self → ℕ → List ℕ → Type 0 };
+    ghost inserted: { Self → Self → ℕ → List ℕ → Type 0 };
 
     /// An index before and after a removal of a number and its vector.
-    ghost shrunk: { Self → Self → ℕ → List ℕ → Type 0 };
+    ghost removed: { Self → Self → ℕ → List ℕ → Type 0 };
 
     /// Gives in `out`, in place of what it held, exactly the numbers within `eps` of the centre, rising.
     ///
@@ -57,7 +59,7 @@ pub trait RangeIndex<M: Metric> {
         requires width { length vector.now ≡ width self.old }
         requires absent { map.get (contents self.old) number ≡ None }
         requires room { map.len (contents self.old) < 200000 }
-        ensures grown { OnOk result (grown self.old self.new number vector.now) }
+        ensures inserted { OnOk result (inserted self.old self.new number vector.now) }
         ensures same_width { width self.new ≡ width self.old }
         ensures lawful_width { IsWidth (width self.old) }
         ensures vectors { HaveWidth (width self.old) (contents self.old) }
@@ -76,15 +78,15 @@ pub trait RangeIndex<M: Metric> {
         requires width { length vector.now ≡ width self.old }
         ensures present { IfOk result (λ found. IsTrue found ↔ (map.get (contents self.old) number ≡ Some vector.now)) }
         ensures absent { (map.get (contents self.old) number ≡ Some vector.now → ⊥) → (result ≡ Ok false) × (self.new ≡ self.old) }
-        ensures shrunk { result ≡ Ok true → shrunk self.old self.new number vector.now }
+        ensures removed { result ≡ Ok true → removed self.old self.new number vector.now }
         ensures same_width { width self.new ≡ width self.old }
         ensures lawful_width { IsWidth (width self.old) }
         ensures vectors { HaveWidth (width self.old) (contents self.old) }
         ensures counted { steps.new ≤ steps.old + (16384 + cost self.old vector.now 0) };
 
-    // A grown index has the pair beside those that it had, and its width.
-    ghost grows: { (before after : Self) (n : ℕ) (v : List ℕ) → grown before after n v → (width after ≡ width before) × (contents after ≡ map.insert (contents before) n v) };
+    // An index after an insertion has the pair beside those that it had, and its width.
+    ghost inserts: { (before after : Self) (n : ℕ) (v : List ℕ) → inserted before after n v → (width after ≡ width before) × (contents after ≡ map.insert (contents before) n v) };
 
-    // A shrunk index has the pairs that it had without this one, and its width.
-    ghost shrinks: { (before after : Self) (n : ℕ) (v : List ℕ) → shrunk before after n v → (width after ≡ width before) × (contents after ≡ map.remove (contents before) n) };
+    // An index after a removal has the pairs that it had without this one, and its width.
+    ghost removes: { (before after : Self) (n : ℕ) (v : List ℕ) → removed before after n v → (width after ≡ width before) × (contents after ≡ map.remove (contents before) n) };
 }

@@ -4,7 +4,8 @@
 //! They look at all pairs of records. [`cluster_plain`] computes the marks from them and is promised
 //! to give exactly theirs, for every lawful metric; [`laws`] ties the marks to the relations that a
 //! reader believes. [`cases_plain`] gives the events of one change, from the marks before and after
-//! it. [`find_mark`] looks up the mark of a number. [`RangeIndex`] is what an index by distance is.
+//! it. [`find_mark`] looks up the mark of a number, and [`names_cluster`] says whether it is that of a
+//! cluster's least core. [`RangeIndex`] is what an index by distance is.
 //! It stands on `vec_record`.
 #![tactic(auto)]
 
@@ -19,5 +20,5 @@ mod points;
 
 pub use cases::cases_plain;
 pub use index::RangeIndex;
-pub use marks::{Mark, Marks, find_mark};
+pub use marks::{Mark, Marks, find_mark, names_cluster};
 pub use plain::cluster_plain;

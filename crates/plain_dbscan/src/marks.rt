@@ -1,8 +1,11 @@
+//! Marks of numbers, and lists of them.
+
 ghost use Rattle.std.specs.Prelude.{◌≡◌, [], ◌∷◌, ◌++◌, length, OnOk, OnErr};
 ghost use Rattle.std.specs.Ordering.{nat_cmp};
 ghost use Rattle.std.specs.FinMap.Entries.{is_sorted};
 ghost use lib.Dec.{T};
 ghost use Rattle.plain_dbscan.specs.Cases.{mark_at};
+ghost use Rattle.plain_dbscan.specs.Texts as text;
 
 use std::alloc::{AllocError, Global};
 use std::marker::Model;
@@ -58,6 +61,16 @@ impl Marks {
         ensures { result.now ≡ self.now }
     {
         &self.items
+    }
+}
+
+/// Whether a number with its mark is a core that is its own label. Each cluster has one such core.
+pub fn names_cluster(number: Number, mark: Mark) -> bool
+    ensures { result ≡ text.names_cluster (number, mark) }
+{
+    match mark {
+        Mark::Core(label) => label == number,
+        _ => false,
     }
 }
 

@@ -1,3 +1,5 @@
+//! Records as points: a number and its vector side by side.
+
 ghost use Rattle.std.specs.Prelude.{◌≡◌, ◌+◌, length, nat_le, IfOk};
 ghost use Rattle.std.specs.FinMap as map;
 ghost use Rattle.vec_record.specs.Vectors.{IsWidth};
@@ -14,22 +16,17 @@ pub struct Point<'a> {
     pub vector: &'a Vector,
 }
 
-/// All records as points, rising.
-///
-/// It looks each record up once, so that no loop over pairs has to.
+/// All records as points, rising, by one walk over them.
 pub fn points_of(alloc: Global, records: &Records) -> Result<Vec<Point<'_>>, AllocError>
     ensures entries { IfOk result (λ points. entries_of points.items ≡ map.entries records.now.vectors) }
     ensures vectors { IfOk result (λ points. AreOfWidth records.now.width points.items) }
 {
-    let numbers = records.numbers()?;
     let mut points = Vec::new(alloc);
-    for number in numbers.as_slice() {
-        if let Some(vector) = records.get(*number) {
-            points.push(Point {
-                number: *number,
-                vector,
-            })?;
-        }
+    for (number, vector) in records.iter() {
+        points.push(Point {
+            number: *number,
+            vector,
+        })?;
     }
     Ok(points)
 }

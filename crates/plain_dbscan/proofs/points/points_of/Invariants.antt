@@ -1,10 +1,7 @@
-use Rattle.std.proofs.Common.{◌≡◌, take}
+use Rattle.std.proofs.Common.{◌≡◌, ◌++◌}
 use Rattle.std.specs.FinMap as map
-use Rattle.plain_dbscan.specs.Points.{entries_of, AreOfWidth}
+use Rattle.plain_dbscan.specs.Points.{entries_of}
 use Rattle.plain_dbscan.proofs.points.points_of.Given as goal
 
 abbrev pub invariant-loop-number : goal.invariant-loop-number
-invariant-loop-number l = record {
-  entries : entries_of l.points.items ≡ take l.number-index (map.entries l.records.vectors);
-  vectors : AreOfWidth l.records.width l.points.items;
-}
+invariant-loop-number l = entries_of l.points.items ++ l.number-iterator ≡ map.entries l.records.vectors
