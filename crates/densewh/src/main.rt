@@ -1,9 +1,12 @@
 //! The program. It hands the words, standard input and the file beside standard output to the top
-//! call of `session_desk`, and ends with the number of its status.
+//! call of `session_desk`, says on standard error what the status means, and ends with its number.
 #![tactic(auto)]
+
+mod advice;
 
 ghost use Rattle.std.specs.Prelude.{◌≡◌, ◌<◌};
 
+use advice::explain;
 use session_desk::{Status, run};
 use site_disk::{FileSite, StdSource};
 use std::alloc::{AllocError, Global};
@@ -36,14 +39,19 @@ fn run_on<L: Ledger>(alloc: Global, rt: &HostRuntime, words: &[String], blank: B
 {
     let mut source = StdSource::new(rt);
     let mut site = FileSite::new(rt);
-    let mut steps = Steps::<L>::new(blank);
-    run(alloc, words, &mut source, &mut site, &mut steps)
+    let mut steps = Steps::<L>::new(rt, blank);
+    let status = run(alloc, words, &mut source, &mut site, &mut steps);
+    explain(rt, status, words, source.last_error(), site.last_error());
+    status
 }
 
 fn main(rt: HostRuntime) -> ExitCode {
     let status = match words(&rt) {
         Ok(words) => run_on::<Brand>(rt.alloc(), &rt, &words, Blank::new(1)),
-        Err(_) => Status::Memory,
+        Err(_) => {
+            explain(&rt, Status::Memory, &[], None, None);
+            Status::Memory
+        }
     };
     ExitCode::from(status.number())
 }

@@ -1,4 +1,5 @@
 pub mod Moments
+mod Portions
 mod Pieces
 mod Replays
 mod Calls

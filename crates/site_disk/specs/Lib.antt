@@ -15,3 +15,4 @@ pub mod Clock
 pub mod Written
 pub mod Often
 pub mod Runs
+pub mod inside

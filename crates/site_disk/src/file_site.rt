@@ -1,139 +1,196 @@
-ghost use Rattle.std.specs.Prelude.{◌≡◌, ◌≤◌, ◌+◌, ◌-◌, ◌^◌, length, IfOk, Ok, false};
+//! The site of the program: a file of the current folder, and standard output.
+ghost use Rattle.std.specs.Prelude.{◌≡◌, ◌≤◌, ◌+◌, ◌-◌, ◌^◌, [], length, IfOk, Ok, false};
 ghost use Rattle.site_disk.specs.Causes.{HasCause};
 ghost use Rattle.site_disk.specs.Silent.{silent, silent_is_now};
 
+use crate::handle::{Handle, MAX_LEN};
+use crate::parts::{TakesParts, read_whole, write_whole};
 use crate::site::Site;
 use crate::source::Failed;
-use std::fs::{File, OpenOptions};
+use std::fs::OpenOptions;
 use std::io::{self, ErrorKind, Write};
-use std::os::unix::fs::FileExt;
 
 /// The name of the file, in the current folder.
 const NAME: &str = "warehouse.idb";
 
-/// The greatest length that a file may have.
-const MAX_LEN: u64 = 9_223_372_036_854_775_807;
+/// Why a call on the site of the program failed.
+#[derive(Clone, Copy, Debug)]
+pub enum SiteError {
+    /// Standard output is closed, or didn't take what was said.
+    Output(io::Error),
+    /// The file could not be opened, read, written or synced.
+    File(io::Error),
+    /// Another program has the file open as its store.
+    Locked,
+}
+
+/// The file, as far as the site has looked. Where it saw none, it opens none that comes to be later, since
+/// callers rest on what they were told.
+#[derive(Drop)]
+enum Store {
+    Unseen,
+    Missing,
+    Open(Handle),
+}
 
 /// The file `warehouse.idb` of the current folder, and standard output. It tells nothing of content.
+///
+/// The file is opened by the first call that asks for it, and not where standard output is closed. It
+/// stays locked against a second program until the site is dropped.
 #[derive(Drop)]
 pub struct FileSite {
     rt: HostRuntime,
-    file: Option<File>,
+    store: Store,
     /// Whether the folder was synced since the file was opened, so that the file's name is kept too.
     is_named: bool,
     faults: u64,
+    last: Option<SiteError>,
 }
 
-/// Counts a fault where the system answered an error.
-pub(crate) fn counted<T: Drop>(answer: io::Result<T>, faults: &mut u64) -> Result<T, Failed>
+/// Counts a fault where the answer is an error, and keeps it.
+pub(crate) fn counted<T: Drop, E: Drop>(
+    answer: Result<T, E>,
+    faults: &mut u64,
+    last: &mut Option<E>,
+) -> Result<T, Failed>
     ensures cause { HasCause faults.old faults.new result }
     ensures value { IfOk result (λ x. answer ≡ Ok x) }
 {
     match answer {
         Ok(value) => Ok(value),
-        Err(_) => {
+        Err(error) => {
             *faults = faults.saturating_add(1);
+            *last = Some(error);
             Err(Failed)
         }
     }
 }
 
+/// An error of a call on the file.
+impl From<io::Error> for SiteError {
+    fn from(error: io::Error) -> SiteError {
+        if error.kind() == ErrorKind::WouldBlock {
+            return SiteError::Locked;
+        }
+        SiteError::File(error)
+    }
+}
+
+/// Opens the file and locks it.
+fn open_locked(rt: &HostRuntime, is_new: bool) -> io::Result<Handle> {
+    let mut how = OpenOptions::new();
+    how.read(true).write(true).create_new(is_new);
+    let file = Handle::open(rt, &how, NAME)?;
+    file.lock()?;
+    Ok(file)
+}
+
 /// The file, where there is one.
-fn open_old(rt: &HostRuntime) -> io::Result<Option<File>> {
-    match OpenOptions::new().read(true).write(true).open(rt, NAME) {
-        Ok(file) => Ok(Some(file)),
-        Err(error) if error.kind() == ErrorKind::NotFound => Ok(None),
+fn open_old(rt: &HostRuntime) -> io::Result<Store> {
+    match open_locked(rt, false) {
+        Ok(file) => Ok(Store::Open(file)),
+        Err(error) if error.kind() == ErrorKind::NotFound => Ok(Store::Missing),
         Err(error) => Err(error),
     }
 }
 
-/// The file, made where there is none.
-fn open_new(rt: &HostRuntime) -> io::Result<File> {
-    OpenOptions::new()
-        .read(true)
-        .write(true)
-        .create(true)
-        .open(rt, NAME)
+/// Fails where standard output isn't open for writing: an empty write says nothing.
+fn try_output(rt: &HostRuntime) -> Result<(), SiteError> {
+    match io::writer(rt).write(&[]) {
+        Ok(_) => Ok(()),
+        Err(error) => Err(SiteError::Output(error)),
+    }
 }
 
-fn length_of(file: &File) -> io::Result<u64>
+/// Opens the file where there is one.
+fn look(rt: &HostRuntime, store: &mut Store) -> Result<(), SiteError> {
+    if let Store::Unseen = store {
+        try_output(rt)?;
+        *store = open_old(rt)?;
+    }
+    Ok(())
+}
+
+fn length(rt: &HostRuntime, store: &mut Store) -> Result<u64, SiteError>
     ensures { IfOk result (λ n. n ≤ 2 ^ 63 - 1) }
 {
-    let len = file.metadata()?.len();
-    if len > MAX_LEN {
-        return Err(ErrorKind::InvalidData.into());
+    look(rt, store)?;
+    match store {
+        Store::Open(file) => Ok(file.length()?),
+        _ => Ok(0),
     }
-    Ok(len)
 }
 
-/// Reads once at an offset, again where a signal cut in. Nothing stands at an offset that no file reaches.
-fn read_once(file: &File, at: u64, into: &mut [u8]) -> io::Result<usize>
-    ensures { IfOk result (λ n. n ≤ length into.new) }
-{
-    if at > MAX_LEN {
-        return Ok(0);
+/// Fills a piece. Nothing stands at an offset that no file reaches.
+fn fill(rt: &HostRuntime, store: &mut Store, at: u64, into: &mut [u8]) -> Result<(), SiteError> {
+    look(rt, store)?;
+    match store {
+        Store::Open(file) if at <= MAX_LEN => read_whole(file, at, into)?,
+        _ => into.fill(0),
     }
-    for _ in 0..u64::MAX {
-        match file.read_at(into, at) {
-            Err(error) if error.kind() == ErrorKind::Interrupted => {}
-            answer => return answer,
-        }
-    }
-    Err(ErrorKind::TimedOut.into())
+    Ok(())
 }
 
-/// Fills a piece from the file, and with zeros past its end.
-fn read_all(file: &File, at: u64, into: &mut [u8]) -> io::Result<()> {
-    let mut filled = 0;
-    for _ in 0..u64::MAX {
-        if filled >= into.len() {
-            return Ok(());
-        }
-        let got = read_once(file, at.saturating_add(filled as u64), &mut into[filled..])?;
-        if got == 0 {
-            into[filled..].fill(0);
-            return Ok(());
-        }
-        filled += got;
-    }
-    Err(ErrorKind::TimedOut.into())
-}
-
-/// Writes all of a piece. A write that takes nothing is an error.
-fn write_all(file: &File, at: u64, bytes: &[u8]) -> io::Result<()>
+/// Writes, and makes the file where there is none.
+fn put(rt: &HostRuntime, store: &mut Store, at: u64, bytes: &[u8]) -> Result<(), SiteError>
     requires { at + length bytes.now ≤ 2 ^ 63 - 1 }
 {
-    let mut taken = 0;
-    for _ in 0..u64::MAX {
-        if taken >= bytes.len() {
-            return Ok(());
-        }
-        match file.write_at(&bytes[taken..], at + taken as u64) {
-            Ok(0) => return Err(ErrorKind::WriteZero.into()),
-            Ok(amount) => taken += amount,
-            Err(error) if error.kind() == ErrorKind::Interrupted => {}
-            Err(error) => return Err(error),
-        }
+    if bytes.is_empty() {
+        return Ok(());
     }
-    Err(ErrorKind::TimedOut.into())
+    look(rt, store)?;
+    if let Store::Missing = store {
+        *store = Store::Open(open_locked(rt, true)?);
+    }
+    match store {
+        Store::Open(file) => Ok(write_whole(file, at, bytes)?),
+        _ => Err(SiteError::File(ErrorKind::NotFound.into())),
+    }
 }
 
-/// Says all of a piece. A write that takes nothing is an error.
-fn say_all(rt: &HostRuntime, bytes: &[u8]) -> io::Result<()> {
-    let mut out = io::writer(rt);
-    let mut taken = 0;
-    for _ in 0..u64::MAX {
-        if taken >= bytes.len() {
-            return out.flush();
-        }
-        match out.write(&bytes[taken..]) {
-            Ok(0) => return Err(ErrorKind::WriteZero.into()),
-            Ok(amount) => taken += amount,
-            Err(error) if error.kind() == ErrorKind::Interrupted => {}
-            Err(error) => return Err(error),
+/// Reaches the disk with the names in the current folder.
+fn sync_folder(rt: &HostRuntime) -> io::Result<()> {
+    let mut how = OpenOptions::new();
+    how.read(true);
+    Handle::open(rt, &how, ".")?.sync()
+}
+
+/// Reaches the disk with the data, the length, and once with the file's name.
+fn settle(rt: &HostRuntime, store: &mut Store, is_named: &mut bool) -> Result<(), SiteError> {
+    look(rt, store)?;
+    if let Store::Open(file) = store {
+        file.sync()?;
+        if !*is_named {
+            sync_folder(rt)?;
+            *is_named = true;
         }
     }
-    Err(ErrorKind::TimedOut.into())
+    Ok(())
+}
+
+/// Standard output. It takes bytes in the order of the calls, whatever their offset.
+#[derive(Drop)]
+struct Output {
+    rt: HostRuntime,
+}
+
+impl TakesParts for Output {
+    ghost tells = { false };
+
+    ghost held = { λ _. [] };
+
+    fn write_part(&mut self, _at: u64, bytes: &[u8]) -> io::Result<usize> {
+        io::writer(&self.rt).write(bytes)
+    }
+}
+
+/// Says all of a piece.
+fn say_whole(rt: &HostRuntime, bytes: &[u8]) -> Result<(), SiteError> {
+    let mut output = Output { rt: *rt };
+    match write_whole(&mut output, 0, bytes) {
+        Ok(()) => Ok(()),
+        Err(error) => Err(SiteError::Output(error)),
+    }
 }
 
 impl FileSite {
@@ -143,69 +200,17 @@ impl FileSite {
     {
         FileSite {
             rt: *rt,
-            file: None,
+            store: Store::Unseen,
             is_named: false,
             faults: 0,
+            last: None,
         }
     }
-}
 
-/// Opens the file where there is one.
-fn look(rt: &HostRuntime, file: &mut Option<File>) -> io::Result<()> {
-    if file.is_none() {
-        *file = open_old(rt)?;
+    /// Why the last call that failed did so.
+    pub fn last_error(&self) -> Option<SiteError> {
+        self.last
     }
-    Ok(())
-}
-
-fn length(rt: &HostRuntime, file: &mut Option<File>) -> io::Result<u64>
-    ensures { IfOk result (λ n. n ≤ 2 ^ 63 - 1) }
-{
-    look(rt, file)?;
-    match file {
-        Some(file) => length_of(file),
-        None => Ok(0),
-    }
-}
-
-fn fill(rt: &HostRuntime, file: &mut Option<File>, at: u64, into: &mut [u8]) -> io::Result<()> {
-    look(rt, file)?;
-    match file {
-        Some(file) => read_all(file, at, into),
-        None => {
-            into.fill(0);
-            Ok(())
-        }
-    }
-}
-
-/// Writes, and makes the file where there is none.
-fn put(rt: &HostRuntime, file: &mut Option<File>, at: u64, bytes: &[u8]) -> io::Result<()>
-    requires { at + length bytes.now ≤ 2 ^ 63 - 1 }
-{
-    if bytes.is_empty() {
-        return Ok(());
-    }
-    if file.is_none() {
-        *file = Some(open_new(rt)?);
-    }
-    match file {
-        Some(file) => write_all(file, at, bytes),
-        None => Err(ErrorKind::NotFound.into()),
-    }
-}
-
-/// Reaches the disk with the data, the length, and once with the file's name.
-fn settle(rt: &HostRuntime, file: &mut Option<File>, is_named: &mut bool) -> io::Result<()> {
-    look(rt, file)?;
-    if let Some(file) = file {
-        file.sync_all()?;
-        if !*is_named {
-            File::open(rt, ".")?.sync_all()?;
-            *is_named = true;
-        }
-    }
-    Ok(())
 }
 
 impl Site for FileSite {
@@ -218,27 +223,27 @@ impl Site for FileSite {
     ghost is_now = { λ f told. silent_is_now told };
 
     fn len(&mut self) -> Result<u64, Failed> {
-        let answer = length(&self.rt, &mut self.file);
-        counted(answer, &mut self.faults)
+        let answer = length(&self.rt, &mut self.store);
+        counted(answer, &mut self.faults, &mut self.last)
     }
 
     fn read(&mut self, at: u64, into: &mut [u8]) -> Result<(), Failed> {
-        let answer = fill(&self.rt, &mut self.file, at, into);
-        counted(answer, &mut self.faults)
+        let answer = fill(&self.rt, &mut self.store, at, into);
+        counted(answer, &mut self.faults, &mut self.last)
     }
 
     fn write_at(&mut self, at: u64, bytes: &[u8]) -> Result<(), Failed> {
-        let answer = put(&self.rt, &mut self.file, at, bytes);
-        counted(answer, &mut self.faults)
+        let answer = put(&self.rt, &mut self.store, at, bytes);
+        counted(answer, &mut self.faults, &mut self.last)
     }
 
     fn sync(&mut self) -> Result<(), Failed> {
-        let answer = settle(&self.rt, &mut self.file, &mut self.is_named);
-        counted(answer, &mut self.faults)
+        let answer = settle(&self.rt, &mut self.store, &mut self.is_named);
+        counted(answer, &mut self.faults, &mut self.last)
     }
 
     fn say(&mut self, bytes: &[u8]) -> Result<(), Failed> {
-        let answer = say_all(&self.rt, bytes);
-        counted(answer, &mut self.faults)
+        let answer = say_whole(&self.rt, bytes);
+        counted(answer, &mut self.faults, &mut self.last)
     }
 }

@@ -11,16 +11,20 @@ mod counts;
 mod crash;
 mod file_bytes;
 pub mod file_site;
+mod handle;
 pub mod laws;
 pub mod mem_site;
 pub mod mem_source;
+mod parts;
 pub mod site;
+#[cfg(test)]
+mod slow_file;
 pub mod source;
 pub mod std_source;
 #[cfg(test)]
 mod tests;
 
-pub use file_site::FileSite;
+pub use file_site::{FileSite, SiteError};
 pub use mem_site::MemSite;
 pub use mem_source::MemSource;
 pub use site::Site;

@@ -1,3 +1,4 @@
+//! Standard input as a source.
 ghost use Rattle.std.specs.Prelude.{◌≡◌, ◌≤◌, [], length, IfOk, false};
 ghost use Rattle.site_disk.specs.Causes.{HasCause};
 
@@ -10,6 +11,7 @@ use std::io::{self, ErrorKind, Read, Stdin};
 pub struct StdSource {
     input: Stdin,
     faults: u64,
+    last: Option<io::Error>,
 }
 
 impl StdSource {
@@ -19,7 +21,13 @@ impl StdSource {
         StdSource {
             input: rt.stdin(),
             faults: 0,
+            last: None,
         }
+    }
+
+    /// Why the last call that failed did so.
+    pub fn last_error(&self) -> Option<io::Error> {
+        self.last
     }
 }
 
@@ -45,6 +53,6 @@ impl Source for StdSource {
 
     fn take(&mut self, into: &mut [u8]) -> Result<usize, Failed> {
         let answer = read_some(&mut self.input, into);
-        counted(answer, &mut self.faults)
+        counted(answer, &mut self.faults, &mut self.last)
     }
 }

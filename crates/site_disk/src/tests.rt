@@ -1,8 +1,10 @@
 use crate::callers::{say_often, write_twice};
-use crate::{Failed, FileSite, MemSite, MemSource, Site, Source, StdSource};
+use crate::parts::{read_whole, write_whole};
+use crate::slow_file::SlowFile;
+use crate::{Failed, FileSite, MemSite, MemSource, Site, SiteError, Source, StdSource};
 use std::alloc::{AllocError, Global};
-use std::fs;
 use std::test::Fail;
+use std::{fs, io};
 use vec_record::{Bytes, Numbers};
 
 /// A call of a table.
@@ -204,6 +206,16 @@ fn shows_gap<S: Site>(site: &mut S) -> Result<bool, Failed> {
     Ok(site.len()? == 7 && into == *b"abc\0\0\0z\0\0\0" && far == [0; 3])
 }
 
+/// Where a site saw no file, it takes none that comes to be later.
+fn takes_no_later_file(rt: &HostRuntime, name: &str) -> io::Result<bool> {
+    let mut site = FileSite::new(rt);
+    let sees_none = site.len().ok() == Some(0);
+    fs::write(rt, name, "other")?;
+    let refuses = site.write_at(0, b"mine").is_err() && site.len().ok() == Some(0);
+    Ok(sees_none && refuses && fs::read_to_string(rt, name)?.as_str() == "other")
+}
+
+/// A second site on the file waits for the first to end.
 #[test]
 fn keeps_a_file(rt: HostRuntime) -> Result<(), Fail> {
     let name = "warehouse.idb";
@@ -212,8 +224,30 @@ fn keeps_a_file(rt: HostRuntime) -> Result<(), Fail> {
     assert_eq!(rt; is_blank(&mut site).ok(), Some(true));
     assert!(rt; !fs::exists(&rt, name)? && write_gap(&mut site).is_ok());
     assert_eq!(rt; shows_gap(&mut site).ok(), Some(true));
-    assert_eq!(rt; shows_gap(&mut FileSite::new(&rt)).ok(), Some(true));
+    let mut second = FileSite::new(&rt);
+    assert!(rt; second.len().is_err() && matches!(second.last_error(), Some(SiteError::Locked)));
+    drop_site(site);
+    assert_eq!(rt; shows_gap(&mut second).ok(), Some(true));
     fs::remove_file(&rt, name)?;
+    assert!(rt; takes_no_later_file(&rt, name)?);
+    fs::remove_file(&rt, name)?;
+    Ok(())
+}
+
+/// Closes the file of a site.
+fn drop_site(_site: FileSite) {}
+
+/// Whole pieces through a device that takes and gives one byte a call and is cut in on before each.
+#[test]
+fn moves_whole_pieces(rt: HostRuntime) -> Result<(), Fail> {
+    let mut slow = SlowFile::new(rt.alloc());
+    let mut into = [7; 9];
+    assert!(rt;
+        write_whole(&mut slow, 2, b"hello").is_ok() && write_whole(&mut slow, 5, b"p!").is_ok()
+    );
+    assert_eq!(rt; slow.bytes(), b"\0\0help!".as_slice());
+    assert!(rt; read_whole(&mut slow, 1, &mut into).is_ok());
+    assert_eq!(rt; into, *b"\0help!\0\0\0");
     Ok(())
 }
 
