@@ -7,7 +7,7 @@ use Rattle.page_gate.specs.Gate.{part, is_open, fits, items, rises, image_of, pa
 use Rattle.page_gate.specs.Writes.{Names, written, new_count, first_page, IsPlan}
 use Rattle.page_gate.specs.Same.{Same, IsOutside, IsOnly, Keeps}
 use Rattle.page_gate.specs.Steps.{IsOther, IsUnnamed, InPlace, IsSettled, Staged}
-use Rattle.page_gate.specs.Promises.{Holds, Commits}
+use Rattle.page_gate.specs.Promises.{Holds, Commits, IsBehind}
 use Rattle.page_gate.proofs.Parts.{same_part, number_4_of, number_8_of}
 use Rattle.page_gate.proofs.Lists.{items_same}
 use Rattle.page_gate.proofs.Gates.{gate_shut, gate_opened}
@@ -297,6 +297,14 @@ module _ (old : List (List ℕ)) (ws : List (ℕ × List ℕ)) (plan : IsPlan ol
         held_new : (r : Result Unit E) → OnOk r (IsOnly c) → OnOk r (Same (IsOther 1) 2 b.content c.content) → OnOk r (get_or c.content 1 0 ≡ 0) → OnOk r (Holds new c)
         held_new (Ok x) only same zero = closed only same zero
         held_new (Err e) only same zero = tt
+
+    -- what stands behind the last step
+    pub behind : {E : Type 0} {r : Result Unit E} {b c : SiteState} → AtPlaces b → Keeps (IsOther 1) 2 (λ i. get_or i 1 0 ≡ 0) r b c → OnOk r (IsBehind ws c.content)
+    behind {E} {r} {b} {c} here keeps = of r keeps.puts.same keeps.puts.done
+      where
+        of : (r : Result Unit E) → OnOk r (Same (IsOther 1) 2 b.content c.content) → OnOk r (get_or c.content 1 0 ≡ 0) → OnOk r (IsBehind ws c.content)
+        of (Ok x) same zero = record { gate = zero; redo = (gate_laid some_pages here.laid same).staged }
+        of (Err e) same zero = tt
 
     pub gave_up : {E : Type 0} (r : Result Unit E) {b : SiteState} → IsErr r → Safe a b (IsQuiet a X) → b.said ≡ a.said → Commits old new r a b
     gave_up (Ok x) {b} fails safe said = absurd (cc fails)

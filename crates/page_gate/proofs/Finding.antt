@@ -1,9 +1,9 @@
 -- From the gate of a file to its pages.
-use Rattle.std.proofs.Common.{◌≡◌, ◌⊎◌, inl, inr, ℕ, ◌+◌, ◌-◌, ◌*◌, ◌/◌, ◌^◌, ◌<◌, ◌≤◌, Bool, true, false, ◌&&◌, leb, Option, Some, None, List, [], length, get_or, Result, IsTrue, refl, sym, ◌∙◌, ap, subst, arith, zero-add}
+use Rattle.std.proofs.Common.{◌≡◌, ◌≢◌, ◌⊎◌, inl, inr, ℕ, ◌+◌, ◌-◌, ◌*◌, ◌/◌, ◌^◌, ◌<◌, ◌≤◌, Bool, true, false, ◌&&◌, leb, Option, Some, None, List, [], length, get_or, Result, IsTrue, refl, sym, ◌∙◌, ap, subst, arith, zero-add}
 use Rattle.std.specs.Prelude.{Ok, Err, MatchResult}
 use Rattle.site_disk.specs.State.{SiteState, IsNow, Safe}
-use Rattle.site_disk.specs.Calls.{Stays}
-use Rattle.site_disk.proofs.Moments.{start, after_stay, goes_on}
+use Rattle.site_disk.specs.Calls.{Stays, Syncs}
+use Rattle.site_disk.proofs.Moments.{start, after_stay, after_sync, goes_on}
 use Rattle.page_gate.specs.declared.fault.OpenFault.{OpenFault}
 use Rattle.page_gate.specs.declared.fault.OpenFault.TheVariants.{Blank, Foreign, Damaged, SiteFault, Memory}
 use Rattle.page_gate.specs.declared.gate.Gate.{Gate}
@@ -12,7 +12,7 @@ use Rattle.page_gate.specs.Room.{Room}
 use Rattle.page_gate.specs.Gate.{part, number_4, blank_by, is_signed, first_set, is_open, fits, redo_start, redo_count, gate_of, begun_gate, signed_gate, behind_zeros, redo_gate, items, rises, page_of, count_of, counts, list_of, listed_by, listed, taken_by, through, opening, Opening, Opens, Refuses}
 use Rattle.page_gate.specs.Same.{IsOnly}
 use Rattle.page_gate.specs.Looks.{IsSound, HasGate, CanTake, Settled, Settles, Recovers, Lists, Looks, Places, Fills}
-use Rattle.page_gate.specs.Promises.{IsRefusal, IsAsWas, Holds, Finds}
+use Rattle.page_gate.specs.Promises.{IsRefusal, IsAsWas, IsTakenIn, Rests, Holds, Finds}
 use Rattle.std.specs.Int.{w32, from_le_bytes}
 use Rattle.std.proofs.lemmas.List.{ext_get_or}
 use Rattle.std.proofs.lemmas.Bool.{and_left, and_right, lt-leb}
@@ -21,7 +21,7 @@ use Rattle.page_gate.proofs.Committing.{place_of}
 use Rattle.page_gate.proofs.Moving.{IsQuiet}
 use Rattle.page_gate.proofs.Openings.{closed_head, open_head, opening_closed, listed_of}
 use Rattle.page_gate.proofs.Recovery.{fits_parts}
-use Rattle.page_gate.proofs.Looking.{stays_on}
+use Rattle.page_gate.proofs.Looking.{stays_on, Looked, begin_look, only_stays}
 
 part_of_part : (c : List ℕ) → 32768 ≤ length c → part 0 4 (part 16384 16384 c) ≡ part 16384 4 c
 part_of_part c long = ext_get_or 0 (part 0 4 (part 16384 16384 c)) (part 16384 4 c) (inner ∙ sym (length-part 16384 4 c (omega (arith, long)))) (λ i lt.
@@ -67,9 +67,13 @@ sound_gate len first gate is bound = subst IsSound (sym is) (sound_parts (blank_
 pub same_opening : {a : SiteState} → IsNow a → IsOnly a → Safe a a (IsQuiet a (λ c. opening c ≡ opening a.content))
 same_opening now only = start now (λ c left. (refl, ap opening (only c left)))
 
+-- a site at which nothing changed
+pub same_rests : {a : SiteState} → IsOnly a → Rests a a
+same_rests only = record { only = only; opens = refl; content = inl refl }
+
 -- a gate that refuses, and a closed one
 pub recovers_bad : {a : SiteState} (fault : OpenFault) → IsNow a → HasGate (Bad fault) a → Recovers (Err fault) a a
-recovers_bad {a} fault now has = record { safe = same_opening now has.only; said = refl; answer = refusal_self fault (opening a.content) (opening_bad a.content fault has.gate_is) }
+recovers_bad {a} fault now has = record { safe = same_opening now has.only; said = refl; answer = refusal_self fault (opening a.content) (opening_bad a.content fault has.gate_is); rests = λ other. same_rests has.only }
 
 pub recovers_closed : {a : SiteState} → IsNow a → HasGate Closed a → Recovers (Ok tt) a a
 recovers_closed {a} now has =
@@ -78,6 +82,7 @@ recovers_closed {a} now has =
       safe = same_opening now has.only;
       said = refl;
       answer = (has.only, record { list = sym (opening_closed a.content (sym has.gate_is)); opens = refl; shut = both.1; long = both.0.long; len = refl });
+      rests = same_rests has.only;
     }
 
 -- the number of pages, as page 1 has it
@@ -109,8 +114,19 @@ listed_places c count pages is some room places = listed_of [] c pages (record {
 pub stays_safe : {a b : SiteState} → IsNow a → IsOnly a → Stays a b → Safe a b (IsQuiet a (λ c. opening c ≡ opening a.content))
 stays_safe now only stays = after_stay (same_opening now only) stays
 
+pub rests_stays : {a b c : SiteState} → Rests a b → Stays b c → Rests a c
+rests_stays {a} {b} {c} rests stays = record {
+  only = λ i left. rests.only i ((stays.images i).0 left) ∙ sym stays.content;
+  opens = ap opening stays.content ∙ rests.opens;
+  content = of rests.content;
+}
+  where
+    of : (b.content ≡ a.content) ⊎ IsTakenIn a.content b.content → (c.content ≡ a.content) ⊎ IsTakenIn a.content c.content
+    of (inl same) = inl (stays.content ∙ same)
+    of (inr taken) = inr (subst (IsTakenIn a.content) (sym stays.content) taken)
+
 pub recovers_fault : {a b : SiteState} (fault : OpenFault) → IsNow a → IsOnly a → Stays a b → IsRefusal fault (opening a.content) → Recovers (Err fault) a b
-recovers_fault fault now only stays refusal = record { safe = stays_safe now only stays; said = stays.said; answer = refusal }
+recovers_fault fault now only stays refusal = record { safe = stays_safe now only stays; said = stays.said; answer = refusal; rests = λ other. rests_stays (same_rests only) stays }
 
 pub recovers_order : {a b : SiteState} (start count : ℕ) → IsNow a → HasGate (Open start count) a → Stays a b → false ≡ rises 0 (start / 16384) (items start count a.content) → Recovers (Err (Damaged 0 16)) a b
 recovers_order {a} {b} start count now has stays bad = recovers_fault (Damaged 0 16) now has.only stays (opening_order a.content start count (sym has.gate_is) (sym bad))
@@ -126,20 +142,22 @@ settles_safe : {E : Type 0} {r : Result Unit E} {a b c : SiteState} → IsNow a 
 settles_safe {E} {r} {a} {b} {c} now only stays settles = goes_on (stays_safe now only stays) settles.safe.joins
     (λ s i since. let at = settles.safe.each s i since in (at.0 ∙ stays.said, at.1 ∙ ap opening stays.content)) (λ i left. let at = settles.safe.now i left in (at.0 ∙ stays.said, at.1 ∙ ap opening stays.content))
 
-pub recovers_done : {E : Type 0} {a b c : SiteState} → IsNow a → IsOnly a → Stays a b → Settles {E = E} (opening b.content) (length b.content) (Ok tt) b c → Recovers (Ok tt) a c
-recovers_done {E} {a} {b} {c} now only stays settles = record {
-  safe = settles_safe now only stays settles;
+pub recovers_done : {E : Type 0} {a b c : SiteState} (start count : ℕ) → IsNow a → HasGate (Open start count) a → Stays a b → Settles {E = E} (opening b.content) (length b.content) (Ok tt) b c → Recovers (Ok tt) a c
+recovers_done {E} {a} {b} {c} start count now has stays settles = record {
+  safe = settles_safe now has.only stays settles;
   said = settles.said ∙ stays.said;
   answer = (settles.only, subst (λ (l : List ℕ). Settled (opening l) (length l) c.content) stays.content settles.done);
+  rests = record {
+    only = settles.only;
+    opens = settles.done.opens ∙ ap opening stays.content;
+    content = inr (record { start = start; count = count; was = sym has.gate_is; now = settles.zero });
+  };
 }
 
 pub recovers_broke : {E : Type 0} {r : Result Unit E} {a b c : SiteState} → IsNow a → IsOnly a → Stays a b → Settles (opening b.content) (length b.content) r b c → Recovers (Err SiteFault) a c
-recovers_broke {E} {r} {a} {b} {c} now only stays settles = record { safe = settles_safe now only stays settles; said = settles.said ∙ stays.said; answer = tt }
+recovers_broke {E} {r} {a} {b} {c} now only stays settles = record { safe = settles_safe now only stays settles; said = settles.said ∙ stays.said; answer = tt; rests = λ other. absurd (other refl) }
 
 -- the ways out of an opening
-pub finds_memory : {a : SiteState} → IsNow a → Finds (Err Memory) a a
-finds_memory {a} now = record { safe = start now (λ c left. (refl, inl left)); said = refl; list = tt; holds = tt }
-
 was_safe : {a b : SiteState} → Safe a b (IsQuiet a a.may_leave) → Safe a b (IsAsWas a)
 was_safe {a} {b} safe = record {
   joins = safe.joins;
@@ -147,34 +165,52 @@ was_safe {a} {b} safe = record {
   now = λ c left. let at = safe.now c left in (at.0, inl at.1);
 }
 
-pub finds_fault : {E : Type 0} {r : Result ℕ E} {first : List ℕ} {a b : SiteState} → Looks r first a b → Finds (Err SiteFault) a b
-finds_fault looks = record { safe = was_safe looks.safe; said = looks.said; list = tt; holds = tt }
+pub finds_unsynced : {E : Type 0} {r : Result Unit E} {a b : SiteState} → IsNow a → Syncs r a b → Finds (Err SiteFault) a b
+finds_unsynced now sync = record { safe = was_safe (after_sync (begin_look now) sync); said = sync.said; list = tt; holds = tt; rests = λ other. absurd (other refl) }
 
-pub looked_gate : {E : Type 0} {a b : SiteState} (len : ℕ) (first : List ℕ) (gate : Gate) → gate ≡ gate_of len first → Looks {E = E} (Ok len) first a b → HasGate gate b
-looked_gate {E} {a} {b} len first gate is looks = record { only = looks.only; gate_is = is ∙ looks.gate.1 ∙ ap (λ (l : List ℕ). gate_of (length l) l) (sym looks.content) }
+looked_rests : {a b : SiteState} → Looked a b → Rests a b
+looked_rests looked = record { only = looked.only; opens = ap opening looked.content; content = inl looked.content }
 
-recovered_safe : {E : Type 0} {r : Result Unit OpenFault} {a b c : SiteState} (len : ℕ) (first : List ℕ) → Looks {E = E} (Ok len) first a b → Recovers r b c → Safe a c (IsAsWas a)
-recovered_safe {E} {r} {a} {b} {c} len first looks recovers = goes_on (was_safe looks.safe) recovers.safe.joins
-    (λ s i since. let at = recovers.safe.each s i since in (at.0 ∙ looks.said, inr (at.1 ∙ ap opening looks.content))) (λ i left. let at = recovers.safe.now i left in (at.0 ∙ looks.said, inr (at.1 ∙ ap opening looks.content)))
+pub finds_memory : {a b : SiteState} → Looked a b → Finds (Err Memory) a b
+finds_memory looked = record { safe = was_safe looked.safe; said = looked.said; list = tt; holds = tt; rests = λ other. looked_rests looked }
 
-pub finds_refusal : {E : Type 0} {a b c : SiteState} (len : ℕ) (first : List ℕ) (fault : OpenFault) → Looks {E = E} (Ok len) first a b → Recovers (Err fault) b c → Finds (Err fault) a c
-finds_refusal {E} {a} {b} {c} len first fault looks recovers = record {
-  safe = recovered_safe len first looks recovers;
-  said = recovers.said ∙ looks.said;
-  list = subst (λ (l : List ℕ). IsRefusal fault (opening l)) looks.content recovers.answer;
+pub finds_fault : {a b : SiteState} → Looked a b → Finds (Err SiteFault) a b
+finds_fault looked = record { safe = was_safe looked.safe; said = looked.said; list = tt; holds = tt; rests = λ other. absurd (other refl) }
+
+pub looked_gate : {E : Type 0} {a b c : SiteState} (len : ℕ) (first : List ℕ) (gate : Gate) → gate ≡ gate_of len first → Looked a b → Looks {E = E} (Ok len) first b c → HasGate gate c
+looked_gate {E} {a} {b} {c} len first gate is looked looks = record { only = only_stays looked.only looks.stays; gate_is = is ∙ looks.gate.1 ∙ ap (λ (l : List ℕ). gate_of (length l) l) (sym looks.stays.content) }
+
+recovered_safe : {r : Result Unit OpenFault} {a b c : SiteState} → Looked a b → Recovers r b c → Safe a c (IsAsWas a)
+recovered_safe {r} {a} {b} {c} looked recovers = goes_on (was_safe looked.safe) recovers.safe.joins
+    (λ s i since. let at = recovers.safe.each s i since in (at.0 ∙ looked.said, inr (at.1 ∙ ap opening looked.content))) (λ i left. let at = recovers.safe.now i left in (at.0 ∙ looked.said, inr (at.1 ∙ ap opening looked.content)))
+
+rests_on : {a b c : SiteState} → Looked a b → Rests b c → Rests a c
+rests_on {a} {b} {c} looked rests = record { only = rests.only; opens = rests.opens ∙ ap opening looked.content; content = of rests.content }
+  where
+    of : (c.content ≡ b.content) ⊎ IsTakenIn b.content c.content → (c.content ≡ a.content) ⊎ IsTakenIn a.content c.content
+    of (inl same) = inl (same ∙ looked.content)
+    of (inr taken) = inr (subst (λ (l : List ℕ). IsTakenIn l c.content) looked.content taken)
+
+pub finds_refusal : {a b c : SiteState} (fault : OpenFault) → Looked a b → Recovers (Err fault) b c → Finds (Err fault) a c
+finds_refusal {a} {b} {c} fault looked recovers = record {
+  safe = recovered_safe looked recovers;
+  said = recovers.said ∙ looked.said;
+  list = subst (λ (l : List ℕ). IsRefusal fault (opening l)) looked.content recovers.answer;
   holds = tt;
+  rests = λ other. rests_on looked (recovers.rests other);
 }
 
-pub finds : {E : Type 0} {r : Result Room OpenFault} {a b c d : SiteState} (len : ℕ) (first : List ℕ) → Looks {E = E} (Ok len) first a b → Recovers (Ok tt) b c → Lists r c d → Finds r a d
-finds {E} {r} {a} {b} {c} {d} len first looks recovers lists = record {
-  safe = after_stay (recovered_safe len first looks recovers) lists.stays;
-  said = lists.stays.said ∙ recovers.said ∙ looks.said;
+pub finds : {r : Result Room OpenFault} {a b c d : SiteState} → Looked a b → Recovers (Ok tt) b c → Lists r c d → Finds r a d
+finds {r} {a} {b} {c} {d} looked recovers lists = record {
+  safe = after_stay (recovered_safe looked recovers) lists.stays;
+  said = lists.stays.said ∙ recovers.said ∙ looked.said;
   list = of_list r lists.list;
   holds = of_holds r lists.list;
+  rests = of_rests r;
 }
   where
     same_list : listed [] c.content ≡ opening a.content
-    same_list = recovers.answer.1.list ∙ ap opening looks.content
+    same_list = recovers.answer.1.list ∙ ap opening looked.content
 
     of_list : (r : Result Room OpenFault) → MatchResult r (λ pages. listed [] c.content ≡ Opens pages.list) (λ fault. IsRefusal fault (listed [] c.content)) → MatchResult r (λ pages. opening a.content ≡ Opens pages.list) (λ fault. IsRefusal fault (opening a.content))
     of_list (Ok pages) is = sym same_list ∙ is
@@ -187,6 +223,10 @@ finds {E} {r} {a} {b} {c} {d} len first looks recovers lists = record {
       shut = ap is_open lists.stays.content ∙ recovers.answer.1.shut;
     }
     of_holds (Err fault) is = tt
+
+    of_rests : (r : Result Room OpenFault) → MatchResult r (λ _. Rests a d) (λ fault. fault ≢ SiteFault → Rests a d)
+    of_rests (Ok pages) = rests_stays (rests_on looked recovers.rests) lists.stays
+    of_rests (Err fault) = λ other. rests_stays (rests_on looked recovers.rests) lists.stays
 
 pub gate_room : (c : List ℕ) (start count : ℕ) → gate_of (length c) c ≡ Open start count → start + 16392 * count ≤ length c
 gate_room c start count is =

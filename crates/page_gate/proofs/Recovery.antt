@@ -171,6 +171,7 @@ module _ (start count : ℕ) (c0 : List ℕ) (gate : gate_of (length c0) c0 ≡ 
           said = turn.puts.said ∙ kept.puts.said;
           only = turn.only;
           done = of alike kept.puts.done r turn.puts.same turn.puts.done;
+          zero = turn.puts.done;
         }
       where
         closed : Alike c.content → InPlace its c.content → Same (IsOther 1) 2 c.content d.content → get_or d.content 1 0 ≡ 0 → Settled (opening c0) (length c0) d.content
@@ -188,4 +189,4 @@ module _ (start count : ℕ) (c0 : List ℕ) (gate : gate_of (length c0) c0 ≡ 
 
     pub settle_broke : {E : Type 0} (Done : List ℕ → Type 0) {q : Result Unit E} (r : Result Unit E) {b : SiteState} → IsErr r → Puts (IsUnnamed its) start Done q a b → Settles (opening c0) (length c0) r a b
     settle_broke Done (Ok x) {b} fails puts = absurd (cc fails)
-    settle_broke Done (Err e) {b} fails puts = record { safe = after_places Done puts; said = puts.said; only = tt; done = tt }
+    settle_broke Done (Err e) {b} fails puts = record { safe = after_places Done puts; said = puts.said; only = tt; done = tt; zero = tt }

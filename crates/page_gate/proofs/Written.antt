@@ -98,22 +98,22 @@ module _ (pages : List (List ℕ)) (w : ℕ × List ℕ) (ws : List (ℕ × List
       of_either (inl is) = omega (arith, is)
       of_either (inr more) = let so = named_above (length pages + 1) w.0 limit ws rest more in omega (arith, so.0)
 
-  abbrev Grown : Type 0
-  Grown = ((w.0 ≤ length pages) × (length after ≡ length pages)) ⊎ ((w.0 ≡ length pages + 1) × (length after ≡ w.0))
+  abbrev Extends : Type 0
+  Extends = ((w.0 ≤ length pages) × (length after ≡ length pages)) ⊎ ((w.0 ≡ length pages + 1) × (length after ≡ w.0))
 
-  long_on : Grown → w.0 < limit → length pages + 1 ≤ limit → length after + 1 ≤ limit
+  long_on : Extends → w.0 < limit → length pages + 1 ≤ limit → length after + 1 ≤ limit
   long_on (inl there) within le = omega (arith, there.1, le)
   long_on (inr more) within le = omega (arith, more.1, within)
 
-  old_page : (page : ℕ) → Grown → length after < page → length pages < page
+  old_page : (page : ℕ) → Extends → length after < page → length pages < page
   old_page page (inl there) above = omega (arith, there.1, above)
   old_page page (inr more) above = omega (arith, more.0, more.1, above)
 
-  other_page : (page : ℕ) → Grown → length after < page → w.0 ≡ page → ⊥
+  other_page : (page : ℕ) → Extends → length after < page → w.0 ≡ page → ⊥
   other_page page (inl there) above is = omega (arith, there.0, there.1, above, is)
   other_page page (inr more) above is = omega (arith, more.1, above, is)
 
-  covers_on : Grown → Covers (length pages) limit (w ∷ ws) → Covers (length after) limit ws
+  covers_on : Extends → Covers (length pages) limit (w ∷ ws) → Covers (length after) limit ws
   covers_on grown covers page above below = of_names (covers page (old_page page grown above) below)
     where
       of_names : (w.0 ≡ page) ⊎ Names page ws → Names page ws

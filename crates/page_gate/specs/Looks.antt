@@ -1,5 +1,5 @@
 -- What the steps of an opening find.
-use Rattle.std.specs.Prelude.{◌≡◌, ℕ, ◌+◌, ◌-◌, ◌*◌, ◌/◌, ◌^◌, ◌<◌, ◌≤◌, Bool, false, List, [], length, get_or, Result, OnOk, MatchResult, IsTrue}
+use Rattle.std.specs.Prelude.{◌≡◌, ◌≢◌, ℕ, ◌+◌, ◌-◌, ◌*◌, ◌/◌, ◌^◌, ◌<◌, ◌≤◌, Bool, false, List, [], length, get_or, Result, OnOk, MatchResult, IsTrue}
 use Rattle.site_disk.specs.State.{SiteState, Safe}
 use Rattle.site_disk.specs.Calls.{Stays}
 use Rattle.page_gate.specs.declared.fault.OpenFault.{OpenFault}
@@ -10,14 +10,11 @@ use Rattle.page_gate.specs.Room.{Room}
 use Rattle.page_gate.specs.Gate.{part, number_4, number_8, gate_of, is_open, items, rises, listed, opening, Opening, Opens}
 use Rattle.page_gate.specs.Same.{IsOnly, IsOutside, Puts}
 use Rattle.page_gate.specs.Steps.{IsThere}
-use Rattle.page_gate.specs.Promises.{IsRefusal}
+use Rattle.page_gate.specs.Promises.{IsRefusal, Rests}
 
--- a sync, the length, and what page 0 says
+-- the length, and what page 0 says
 pub record Looks {E : Type 0} (result : Result ℕ E) (first : List ℕ) (a b : SiteState) : Type 0 where
-  pub safe : Safe a b (λ s c. (s ≡ a.said) × a.may_leave c)
-  pub said : b.said ≡ a.said
-  pub only : OnOk result (IsOnly b)
-  pub content : OnOk result (b.content ≡ a.content)
+  pub stays : Stays a b
   pub gate : MatchResult result (λ len. (len ≡ length a.content) × (gate_of len first ≡ gate_of (length a.content) a.content)) (λ _. Unit {0})
 
 -- a number of 4 or of 8 bytes, read
@@ -67,6 +64,7 @@ pub record Settles {E : Type 0} (opens_as : Opening) (n : ℕ) (result : Result 
   pub said : b.said ≡ a.said
   pub only : OnOk result (IsOnly b)
   pub done : OnOk result (Settled opens_as n b.content)
+  pub zero : OnOk result (get_or b.content 1 0 ≡ 0)
 
 -- a file whose redo items are to be taken in
 pub record CanTake (start count : ℕ) (a : SiteState) : Type 0 where
@@ -91,6 +89,7 @@ pub record Recovers (result : Result Unit OpenFault) (a b : SiteState) : Type 0 
   pub safe : Safe a b (λ s c. (s ≡ a.said) × (opening c ≡ opening a.content))
   pub said : b.said ≡ a.said
   pub answer : MatchResult result (λ _. IsOnly b × Settled (opening a.content) (length a.content) b.content) (λ fault. IsRefusal fault (opening a.content))
+  pub rests : MatchResult result (λ _. Rests a b) (λ fault. fault ≢ SiteFault → Rests a b)
 
 -- a fault that may come in place of any answer
 abbrev pub IsAny : OpenFault → Type 0

@@ -35,13 +35,12 @@ fn settle_first<T: Site>(device: &mut T) -> Result<(), Failed>
     device.sync()
 }
 
-/// Syncs, and reads the length and page 0.
+/// Reads the length and page 0.
 fn look<T: Site>(site: &mut T, page: &mut Page) -> Result<u64, Failed>
     ensures cause { HasCause (T.faults site.old) (T.faults site.new) result }
     ensures bound { IfOk result (λ n. n ≤ 2 ^ 63 - 1) }
     ensures told { IsTrue T.tells → Looks result page.new (T.state site.old) (T.state site.new) }
 {
-    settle_first(site)?;
     let len = site.len()?;
     page.fill_from(site, 0)?;
     Ok(len)
@@ -228,11 +227,16 @@ fn read_list<T: Site>(alloc: Global, site: &mut T, len: u64) -> Result<Pages, Op
 }
 
 /// Opens a file of pages. A commit or an opening that was cut off is brought to its end first. At
-/// each moment a crash leaves a file that opens as this one.
+/// each moment a crash leaves a file that opens as this one, and unless the site fails, there is one
+/// image in the end, whatever the answer.
 pub fn open_pages<T: Site>(alloc: Global, site: &mut T) -> Result<Pages, OpenFault>
     ensures cause { HasFault (T.faults site.old) (T.faults site.new) result }
     ensures told { IsTrue T.tells → Finds result (T.state site.old) (T.state site.new) }
 {
+    // Before memory is taken, so that the want of it leaves one image too.
+    if settle_first(site).is_err() {
+        return Err(OpenFault::SiteFault);
+    }
     let mut page = match Page::zeros(alloc) {
         Ok(page) => page,
         Err(_) => return Err(OpenFault::Memory),

@@ -4,7 +4,7 @@ ghost use Rattle.page_gate.specs.Gate.{count_of, rises};
 ghost use Rattle.page_gate.specs.Writes.{pairs, written, new_count, IsPlan};
 ghost use Rattle.page_gate.specs.Same.{IsOutside, Puts, Keeps};
 ghost use Rattle.page_gate.specs.Steps.{HasFields, Staged, IsSettled, IsUnnamed, InPlace};
-ghost use Rattle.page_gate.specs.Promises.{Holds, Commits};
+ghost use Rattle.page_gate.specs.Promises.{Holds, Commits, IsBehind};
 
 use crate::gate::number_4;
 use crate::page::{PageWrite, PageWrites};
@@ -65,6 +65,7 @@ fn write_through<T: Site>(site: &mut T, _pages: &Pages, writes: &[PageWrite]) ->
     ensures cause { HasCause (T.faults site.old) (T.faults site.new) result }
     ensures small { new_count (pairs writes.now) < 2 ^ 32 }
     ensures told { IsTrue T.tells → Commits _pages.now.list (written _pages.now.list (pairs writes.now)) result (T.state site.old) (T.state site.new) }
+    ensures behind { IsTrue T.tells → OnOk result (IsBehind (pairs writes.now) (T.state site.new).content) }
 {
     let start = PAGE_SIZE * u64::from(new_count(writes));
     stage(site, start, writes)?;
@@ -81,6 +82,7 @@ pub fn commit<T: Site>(site: &mut T, pages: &mut Pages, writes: PageWrites) -> R
     requires held { IsTrue T.tells → Holds pages.old.list (T.state site.old) }
     ensures cause { HasCause (T.faults site.old) (T.faults site.new) result }
     ensures told { IsTrue T.tells → Commits pages.old.list (written pages.old.list (pairs writes)) result (T.state site.old) (T.state site.new) }
+    ensures behind { IsTrue T.tells → OnOk result (IsBehind (pairs writes) (T.state site.new).content) }
     ensures ok { OnOk result (pages.new.list ≡ written pages.old.list (pairs writes)) }
     ensures err { OnErr result (pages.new ≡ pages.old) }
 {

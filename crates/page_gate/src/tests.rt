@@ -82,12 +82,13 @@ fn lengths(rt: HostRuntime) -> Result<(), Fail> {
 #[test]
 fn gates(rt: HostRuntime) -> Result<(), Fail> {
     let alloc = rt.alloc();
-    for (gate, want) in [(0, 0), (7, 0), (1, 9)] {
+    // the redo gate, byte 4 of page 1 in the end, and the redo gate then
+    for (gate, want, after) in [(0, 0, 0), (7, 0, 7), (1, 9, 0)] {
         let mut device = site(alloc, b"", None)?;
         assert!(rt; store(&mut device, gate).is_ok());
         let marks = mark(open_pages(alloc, &mut device)) == Some(want);
-        let shut = device.content().get(1).is_some_and(|byte| *byte != 1);
-        assert!(rt; marks && shut, "gate {gate}");
+        let turned = device.content().get(1).is_some_and(|byte| *byte == after);
+        assert!(rt; marks && turned, "gate {gate}");
     }
     Ok(())
 }
@@ -326,5 +327,71 @@ fn failing_openings(rt: HostRuntime) -> Result<(), Fail> {
         assert!(rt; opened.is_none() || opened == Some(9), "call {call}");
         assert!(rt; bears_well(alloc, &device, true)?, "call {call}");
     }
+    Ok(())
+}
+
+/// Whether these bytes stand at these offsets, and so many bytes of all aren't zero.
+fn has_bytes(content: &[u8], rows: &[(usize, &[u8])], set: usize) -> bool {
+    for (at, bytes) in rows {
+        if !content
+            .get(*at..)
+            .is_some_and(|rest| rest.starts_with(bytes))
+        {
+            return false;
+        }
+    }
+    content.iter().filter(|byte| **byte != 0).count() == set
+}
+
+/// A file behind a commit of three pages, 4 the number of pages then: the gates, the letters, the redo
+/// start 65,536 and the redo count 3; the pages in their places; and the items of 16,392 bytes.
+const COMMITTED: [(usize, &[u8]); 7] = [
+    (0, b"\x01\0denswh\0\0\x01\0\0\0\0\0\x03\0\0\0"),
+    (16_384, b"\x04\0\0\0\x08"),
+    (32_768, b"\x06"),
+    (49_152, b"\x05"),
+    (65_536, b"\x01\0\0\0\0\0\0\0\x04\0\0\0\x08"),
+    (81_928, b"\x02\0\0\0\0\0\0\0\x06"),
+    (98_320, b"\x03\0\0\0\0\0\0\0\x05"),
+];
+
+#[test]
+fn committed_bytes(rt: HostRuntime) -> Result<(), Fail> {
+    let mut device = site(rt.alloc(), b"", None)?;
+    assert!(rt; two_pages(&mut device).is_ok());
+    assert!(rt; advance(rt.alloc(), &mut device).is_ok());
+    assert_eq!(rt; device.content().len(), 114_712);
+    assert!(rt; has_bytes(device.content(), &COMMITTED, 20));
+    Ok(())
+}
+
+/// A new store of a page with two bytes set.
+const BORN: [(usize, &[u8]); 2] = [(0, b"\x01\0denswh"), (16_384, b"\x02\0\0\0\x09")];
+
+#[test]
+fn born_bytes(rt: HostRuntime) -> Result<(), Fail> {
+    let first = marked(rt.alloc(), 2, 9)?;
+    let mut device = site(rt.alloc(), b"", None)?;
+    assert!(rt; bear(&mut device, &first).is_ok_and(|born| born));
+    assert_eq!(rt; device.content().len(), 32_768);
+    assert!(rt; has_bytes(device.content(), &BORN, 9));
+    Ok(())
+}
+
+/// The gate page then, the page that was taken in, and its item.
+const REFUSED: [(usize, &[u8]); 3] = [
+    (0, b"\x01\0denswh\0\x80\0\0\0\0\0\0\x01"),
+    (16_384, b"\x01\0\0\0\x09"),
+    (32_768, b"\x01\0\0\0\0\0\0\0\x01\0\0\0\x09"),
+];
+
+/// The redo items are taken in before the number of pages refuses, and the redo gate is closed.
+#[test]
+fn refused_after_the_redo(rt: HostRuntime) -> Result<(), Fail> {
+    let mut device = site(rt.alloc(), b"", None)?;
+    assert!(rt; store(&mut device, 1).is_ok() && device.write_at(32_776, &[1]).is_ok());
+    let want = OpenFault::Damaged { page: 1, offset: 0 };
+    assert!(rt; open_pages(rt.alloc(), &mut device).is_err_and(|fault| fault == want));
+    assert!(rt; has_bytes(device.content(), &REFUSED, 14));
     Ok(())
 }
