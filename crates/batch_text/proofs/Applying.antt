@@ -9,7 +9,7 @@ use Rattle.vec_record.specs.Held.{Held, Rows}
 use Rattle.vec_record.specs.declared.change.Change.{Change}
 use Rattle.vec_record.specs.declared.change.Change.TheVariants.{Insert, Delete}
 use Rattle.batch_text.specs.After.{CanApply, after_from, and_then, changed}
-use Rattle.batch_text.specs.Batch.{Fits}
+use Rattle.batch_text.specs.Batch.{IsChangeOf}
 use Rattle.batch_text.specs.declared.faults.CheckFault.{CheckFault}
 use Rattle.batch_text.specs.declared.faults.CheckFault.TheVariants.{Repeated, Unknown, Full}
 
@@ -38,11 +38,11 @@ applies place cap rows (Delete n) cs h =
 -- the changes that are left apply to the records that stand now, and come to what all changes come to
 pub record Applying (cap : ℕ) (width : ℕ) (all : Result Rows CheckFault) (now : Held) (cs : List Change) : Type 0 where
   pub same : now.width ≡ width
-  pub fit : AllByRecursion (Fits width) cs
+  pub fit : AllByRecursion (IsChangeOf width) cs
   pub rest : (place : ℕ) × (after_from place cap now.vectors cs ≡ all)
 
-pub first_fits : (cap width : ℕ) (all : Result Rows CheckFault) (now : Held) (c : Change) (cs : List Change) → Applying cap width all now (c ∷ cs) → Fits now.width c
-first_fits cap width all now c cs h = subst (λ w. Fits w c) (sym h.same) h.fit.0
+pub first_fits : (cap width : ℕ) (all : Result Rows CheckFault) (now : Held) (c : Change) (cs : List Change) → Applying cap width all now (c ∷ cs) → IsChangeOf now.width c
+first_fits cap width all now c cs h = subst (λ w. IsChangeOf w c) (sym h.same) h.fit.0
 
 pub first_can : (cap width : ℕ) (all : Result Rows CheckFault) (now : Held) (c : Change) (cs : List Change) → IsOk all → Applying cap width all now (c ∷ cs) → CanApply now.vectors c
 first_can cap width all now c cs ok h = (applies h.rest.0 cap now.vectors c cs (subst IsOk (sym h.rest.1) ok)).0

@@ -17,7 +17,7 @@ use Rattle.batch_text.specs.Numbers.{number_of, within}
 use Rattle.batch_text.specs.Vectors.{alone, bytes_of, joined, packed_byte, spelled, spelled_by}
 use Rattle.batch_text.proofs.Spelling.{parts_spelled}
 use Rattle.batch_text.specs.Grammar.{change_of, deletion, insertion, signed_change}
-use Rattle.batch_text.specs.Batch.{Fits, IsSpelledChange, changes_next, changes_of, said_by}
+use Rattle.batch_text.specs.Batch.{IsChangeOf, IsSpelledChange, changes_next, changes_of, said_by}
 use Rattle.batch_text.specs.declared.faults.LineFault.{LineFault}
 use Rattle.batch_text.specs.declared.read.ReadBatch.{ReadBatch}
 use Rattle.batch_text.specs.declared.faults.LineFault.TheVariants.{Malformed, WrongLength}
@@ -136,8 +136,8 @@ module _ (m : MetricKind) (dim : ℕ) (P : Change → Type 0)
   all_so [] = tt
   all_so (r ∷ rs) = next_so (change_of m dim r) (changes_of m dim rs) (change_so r) (all_so rs)
 
-all_fit : (m : MetricKind) (dim : ℕ) (rs : List (List (List ℕ))) → AllByRecursion (Fits (width_of m dim)) (changes_of m dim rs)
-all_fit m dim rs = all_so m dim (Fits (width_of m dim)) (λ n fs parts some is len. (some, record { len = byte_count m parts ∙ ap (width_of m) len; bytes = are_bytes m fs parts is })) (λ n some. some) rs
+all_fit : (m : MetricKind) (dim : ℕ) (rs : List (List (List ℕ))) → AllByRecursion (IsChangeOf (width_of m dim)) (changes_of m dim rs)
+all_fit m dim rs = all_so m dim (IsChangeOf (width_of m dim)) (λ n fs parts some is len. (some, record { len = byte_count m parts ∙ ap (width_of m) len; bytes = are_bytes m fs parts is })) (λ n some. some) rs
 
 all_spelled : (m : MetricKind) (dim : ℕ) (rs : List (List (List ℕ))) → AllByRecursion (IsSpelledChange m dim) (changes_of m dim rs)
 all_spelled m dim rs = all_so m dim (IsSpelledChange m dim) (λ n fs parts some is len. ap (λ (d : ℕ). is_spelled m d (bytes_of m parts)) (sym len) ∙ parts_spelled m parts) (λ n some. tt) rs
@@ -163,8 +163,8 @@ told_whole m dim rs b e le =
     let few : length rs ≤ 100001 = omega (arith, told_total m dim rs b e) in
     e ∙ ap (said_by m dim) (take_all 100001 rs few)
 
-pub told_fits : (m : MetricKind) (dim : ℕ) (rs : List (List (List ℕ))) (b : ReadBatch) → b ≡ said_by m dim rs → AllByRecursion (Fits (width_of m dim)) b.changes
-told_fits m dim rs b e = subst (λ (x : ReadBatch). AllByRecursion (Fits (width_of m dim)) x.changes) (sym e) (all_fit m dim rs)
+pub told_fits : (m : MetricKind) (dim : ℕ) (rs : List (List (List ℕ))) (b : ReadBatch) → b ≡ said_by m dim rs → AllByRecursion (IsChangeOf (width_of m dim)) b.changes
+told_fits m dim rs b e = subst (λ (x : ReadBatch). AllByRecursion (IsChangeOf (width_of m dim)) x.changes) (sym e) (all_fit m dim rs)
 
 pub told_spelled : (m : MetricKind) (dim : ℕ) (rs : List (List (List ℕ))) (b : ReadBatch) → b ≡ said_by m dim rs → AllByRecursion (IsSpelledChange m dim) b.changes
 told_spelled m dim rs b e = subst (λ (x : ReadBatch). AllByRecursion (IsSpelledChange m dim) x.changes) (sym e) (all_spelled m dim rs)

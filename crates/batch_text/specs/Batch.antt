@@ -38,9 +38,9 @@ abbrev pub batch_of : MetricKind → ℕ → List ℕ → ReadBatch
 batch_of metric dim body = said_by metric dim (take 100001 (records_of body))
 
 -- a change whose number is not 0, and whose vector has the width
-abbrev pub Fits : ℕ → Change → Type 0
-Fits width (Insert n v) = (n ≢ 0) × IsVector width v
-Fits width (Delete n) = n ≢ 0
+abbrev pub IsChangeOf : ℕ → Change → Type 0
+IsChangeOf width (Insert n v) = (n ≢ 0) × IsVector width v
+IsChangeOf width (Delete n) = n ≢ 0
 
 -- a change whose vector has no bit past its last
 abbrev pub IsSpelledChange : MetricKind → ℕ → Change → Type 0

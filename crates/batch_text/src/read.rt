@@ -3,7 +3,7 @@ ghost use Rattle.std.specs.List.{AllByRecursion};
 ghost use Rattle.csv.specs.Records.{fields_of};
 ghost use Rattle.vec_record.specs.Limits.{width_of};
 ghost use Rattle.batch_text.specs.Records.{records_of};
-ghost use Rattle.batch_text.specs.Batch.{Fits, IsSpelledChange, batch_of, said_by};
+ghost use Rattle.batch_text.specs.Batch.{IsChangeOf, IsSpelledChange, batch_of, said_by};
 ghost use Rattle.batch_text.specs.Reading.{Holds};
 
 use crate::faults::LineFault;
@@ -77,7 +77,7 @@ pub fn read_batch(alloc: Global, body: &[u8], params: &Params) -> Result<ReadBat
     ensures is { IfOk result (λ b. b ≡ batch_of params.now.metric params.now.dim body.now) }
     ensures total { IfOk result (λ b. b.total ≡ min (length (records_of body.now)) 100_001) }
     ensures whole { IfOk result (λ b. b.total ≤ 100_000 → b ≡ said_by params.now.metric params.now.dim (records_of body.now)) }
-    ensures fits { IfOk result (λ b. AllByRecursion (Fits (width_of params.now.metric params.now.dim)) b.changes) }
+    ensures fits { IfOk result (λ b. AllByRecursion (IsChangeOf (width_of params.now.metric params.now.dim)) b.changes) }
     ensures spelled { IfOk result (λ b. AllByRecursion (IsSpelledChange params.now.metric params.now.dim) b.changes) }
     ensures places { IfOk result (λ b. length b.changes ≤ b.total) }
 {

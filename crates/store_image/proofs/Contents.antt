@@ -60,8 +60,12 @@ unfolding is_blank opening gate_of
 blank_of c is = only_blank c (blank_by (length c) (get_or c 0 0)) (leb 32768 (length c) && is_signed c) (first_set c) (is_open c) (fits (length c) (redo_start c) (redo_count c)) (redo_start c) (redo_count c) is
 
 sound_along : (c d : List ℕ) → opening c ≡ opening d → IsSound c → IsSound d
-sound_along c d same (inl blank) = inl (blank_of d (sym same ∙ blank_gate c blank))
-sound_along c d same (inr opens) = inr (refusal_is d ∙ ap verdict (sym same) ∙ sym (refusal_is c) ∙ opens)
+sound_along c d same sound = record {
+  begins = elim sound.begins [
+    | inl blank ↦ inl (blank_of d (sym same ∙ blank_gate c blank))
+    | inr opens ↦ inr (refusal_is d ∙ ap verdict (sym same) ∙ sym (refusal_is c) ∙ opens)
+  ];
+}
 
 pub same_openings : SameOpeningsAreAlike
 same_openings c d same = record {

@@ -12,6 +12,7 @@ use Rattle.page_layout.specs.Heads.{Values, HeadValue}
 use Rattle.page_layout.specs.Bodies.{Rows, IsRow, slots_in_page}
 use Rattle.store_image.specs.declared.fault.StoreFault.{StoreFault}
 use Rattle.store_image.specs.declared.fault.StoreFault.TheVariants.{Damaged}
+use Rattle.store_image.specs.Slots.{Places}
 use Rattle.store_image.specs.Images.{number_of}
 use Rattle.store_image.specs.Loading.{and_then, unless, head_in_pages, slots_in, page_limit, first_repeated, unless_repeated, counted, image_with, load_of, Fails}
 use Rattle.store_image.specs.Steps.{Took}
@@ -44,9 +45,9 @@ numbered v [] all = tt
 numbered v (None ∷ rows) all = (tt, numbered v rows all.1)
 numbered v (Some s ∷ rows) all = (all.0.number, numbered v rows all.1)
 
-pub took_count : (v : Values) (rows : Rows) (numbers : List ℕ) (records : held.Held) → AllByRecursion (IsRow v) rows → Took v rows numbers records → count_by is_used rows ≡ maps.len records.vectors
-took_count v rows numbers records lawful took =
-    let apart : Apart (map number_of rows) = subst Apart took.numbers_are (once_apart numbers took.once) in
+pub took_count : (v : Values) (rows : Rows) (places : Places) (records : held.Held) → AllByRecursion (IsRow v) rows → Took v rows places records → count_by is_used rows ≡ maps.len records.vectors
+took_count v rows places records lawful took =
+    let apart : Apart (map number_of rows) = once_apart (map number_of rows) took.once in
     count_used rows (numbered v rows lawful) ∙ sym (len_used rows (numbered v rows lawful) apart) ∙ sym (ap (λ (r : held.Held). maps.len r.vectors) took.records_are)
 
 -- too many or too few records

@@ -9,3 +9,5 @@ pub mod Searching
 pub mod Filling
 pub mod Taking
 pub mod Counting
+pub mod Refusals
+pub mod Lying

@@ -16,8 +16,8 @@ use Rattle.std.proofs.lemmas.Map.Views.{any-filter_same}
 use Rattle.std.proofs.lemmas.Nat.{mod-mul-add, mod_below, div-add-mod'}
 use Rattle.vec_record.specs.Held as held
 use Rattle.page_layout.specs.Bodies.{slots_in_page}
-use Rattle.store_image.specs.Images.{Places}
-use Rattle.store_image.specs.Placing.{kept, unplaced, filled, padded, placed}
+use Rattle.store_image.specs.Placing.{filled, padded}
+use Rattle.store_image.specs.Steps.{freed, slotless, renewed}
 use Rattle.store_image.proofs.Numbers.{has, Apart, Without}
 
 or_false : (b : Bool) → (b || false) ≡ b
@@ -55,16 +55,16 @@ module _ (vectors : held.Rows) where
   has_keys m = sym (maps.contains_key-keys vectors m ∙ any_tied (maps.keys vectors) m)
 
   -- the numbers that stay
-  pub has_kept : (ns : List ℕ) (m : ℕ) → (m ≡ 0 → ⊥) → has (kept vectors ns) m ≡ (has ns m && maps.contains_key vectors m)
+  pub has_kept : (ns : List ℕ) (m : ℕ) → (m ≡ 0 → ⊥) → has (freed vectors ns) m ≡ (has ns m && maps.contains_key vectors m)
   has_kept [] m some = refl
   has_kept (n ∷ ns) m some = elim (cases_eq n m) [
     | inl same ↦
         let here : (n == m) ≡ true = eq-eqb n m same in
-        ap (λ (b : Bool). (cond b n 0 == m) || has (kept vectors ns) m) (ap (maps.contains_key vectors) same)
+        ap (λ (b : Bool). (cond b n 0 == m) || has (freed vectors ns) m) (ap (maps.contains_key vectors) same)
         ∙ at_same here (has_kept ns m some)
     | inr differ ↦
         let other : (n == m) ≡ false = ne_eqb n m differ in
-        ap (λ (b : Bool). b || has (kept vectors ns) m) (neither (maps.contains_key vectors n) other)
+        ap (λ (b : Bool). b || has (freed vectors ns) m) (neither (maps.contains_key vectors n) other)
         ∙ has_kept ns m some
         ∙ ap (λ (b : Bool). (b || has ns m) && maps.contains_key vectors m) (sym other)
   ]
@@ -76,7 +76,7 @@ module _ (vectors : held.Rows) where
       neither true other = other
       neither false other = zero_away
 
-      by_key : (c b : Bool) → (n == m) ≡ true → has (kept vectors ns) m ≡ (b && c) → ((cond c n 0 == m) || has (kept vectors ns) m) ≡ (((n == m) || b) && c)
+      by_key : (c b : Bool) → (n == m) ≡ true → has (freed vectors ns) m ≡ (b && c) → ((cond c n 0 == m) || has (freed vectors ns) m) ≡ (((n == m) || b) && c)
       by_key true b here rest = rw here refl
       by_key false b here rest = rw (zero_away, rest) (nothing b (n == m))
         where
@@ -86,25 +86,25 @@ module _ (vectors : held.Rows) where
           nothing false true = refl
           nothing false false = refl
 
-      at_same : (n == m) ≡ true → has (kept vectors ns) m ≡ (has ns m && maps.contains_key vectors m) → ((cond (maps.contains_key vectors m) n 0 == m) || has (kept vectors ns) m) ≡ (((n == m) || has ns m) && maps.contains_key vectors m)
+      at_same : (n == m) ≡ true → has (freed vectors ns) m ≡ (has ns m && maps.contains_key vectors m) → ((cond (maps.contains_key vectors m) n 0 == m) || has (freed vectors ns) m) ≡ (((n == m) || has ns m) && maps.contains_key vectors m)
       at_same here rest = by_key (maps.contains_key vectors m) (has ns m) here rest
 
-  pub apart_kept : (ns : List ℕ) → Apart ns → Apart (kept vectors ns)
+  pub apart_kept : (ns : List ℕ) → Apart ns → Apart (freed vectors ns)
   apart_kept [] apart = tt
   apart_kept (n ∷ ns) apart = (of_key (maps.contains_key vectors n), apart_kept ns apart.1)
     where
-      away : (n ≡ 0 → ⊥) → has ns n ≡ false → has (kept vectors ns) n ≡ false
+      away : (n ≡ 0 → ⊥) → has ns n ≡ false → has (freed vectors ns) n ≡ false
       away some none = has_kept ns n some ∙ ap (λ (b : Bool). b && maps.contains_key vectors n) none
 
-      of_key : (b : Bool) → (cond b n 0 ≡ 0) ⊎ (has (kept vectors ns) (cond b n 0) ≡ false)
+      of_key : (b : Bool) → (cond b n 0 ≡ 0) ⊎ (has (freed vectors ns) (cond b n 0) ≡ false)
       of_key true = elim (cases_eq n 0) [
         | inl is ↦ inl is
         | inr some ↦ ⊎_elim (λ is. inl is) (λ none. inr (away some none)) apart.0
       ]
       of_key false = inl refl
 
-  pub length-kept : (ns : List ℕ) → length (kept vectors ns) ≡ length ns
-  length-kept ns = length-map ns (λ n. cond (maps.contains_key vectors n) n 0)
+  pub length-freed : (ns : List ℕ) → length (freed vectors ns) ≡ length ns
+  length-freed ns = length-map ns (λ n. cond (maps.contains_key vectors n) n 0)
 
 -- keys that rise are apart
 above_all : (x : ℕ) (es : List (ℕ × List ℕ)) → T (below_all nat_cmp x es) → has (map (λ e. e.0) es) x ≡ false
@@ -148,13 +148,13 @@ apart_filter p (n ∷ ns) apart = of_test (p n) (apart_filter p ns apart.1)
     of_test true rest = (⊎_elim (λ is. inl is) (λ none. inr (fewer none)) apart.0, rest)
     of_test false rest = rest
 
-module _ (vectors : held.Rows) (places : Places) where
-  pub has_unplaced : (m : ℕ) → has (unplaced vectors places) m ≡ (not (has places m) && maps.contains_key vectors m)
+module _ (vectors : held.Rows) (places : List ℕ) where
+  pub has_unplaced : (m : ℕ) → has (slotless vectors places) m ≡ (not (has places m) && maps.contains_key vectors m)
   has_unplaced m =
       any-filter_same (λ k. k == m) (λ n. not (has places n)) (not (has places m)) (λ k is. ap (λ (n : ℕ). not (has places n)) (eqb-true k m is)) (maps.keys vectors)
       ∙ ap (λ (b : Bool). not (has places m) && b) (has_keys vectors m)
 
-  pub apart_unplaced : Apart (unplaced vectors places)
+  pub apart_unplaced : Apart (slotless vectors places)
   apart_unplaced = apart_filter (λ n. not (has places n)) (maps.keys vectors) (apart_rising (maps.entries vectors) (maps.entries_sorted vectors))
 
 -- numbers that take free slots
@@ -283,19 +283,19 @@ whole_pages long size some = of_rest (long % size) (long / size) (div-add-mod' l
         rw rest (record { pages = q + 1; whole = omega (arith, is, below); more = omega arith; less = omega (arith, below) })
 
 -- after a save
-module _ (width : ℕ) (vectors : held.Rows) (places : Places) where
-  apart_new : Without (unplaced vectors places) (kept vectors places)
+module _ (width : ℕ) (vectors : held.Rows) (places : List ℕ) where
+  apart_new : Without (slotless vectors places) (freed vectors places)
   apart_new m some is =
       let stood = (and_parts (has places m) (maps.contains_key vectors m) (sym (has_kept vectors places m some) ∙ is)).0 in
       has_unplaced vectors places m ∙ ap (λ (b : Bool). not b && maps.contains_key vectors m) stood
 
-  abbrev pub saved : Places
-  saved = filled (kept vectors places) (unplaced vectors places)
+  abbrev pub saved : List ℕ
+  saved = filled (freed vectors places) (slotless vectors places)
 
   pub has_saved : (m : ℕ) → (m ≡ 0 → ⊥) → has saved m ≡ maps.contains_key vectors m
   has_saved m some =
-      has_filled (kept vectors places) (unplaced vectors places) m some
-      ∙ ap (λ (b : Bool). b || has (unplaced vectors places) m) (has_kept vectors places m some)
+      has_filled (freed vectors places) (slotless vectors places) m some
+      ∙ ap (λ (b : Bool). b || has (slotless vectors places) m) (has_kept vectors places m some)
       ∙ ap (λ (b : Bool). (has places m && maps.contains_key vectors m) || b) (has_unplaced vectors places m)
       ∙ one_of (has places m) (maps.contains_key vectors m)
     where
@@ -304,24 +304,24 @@ module _ (width : ℕ) (vectors : held.Rows) (places : Places) where
       one_of true false = refl
       one_of false b = refl
 
-  pub has_placed : (m : ℕ) → (m ≡ 0 → ⊥) → has (placed width vectors places) m ≡ maps.contains_key vectors m
+  pub has_placed : (m : ℕ) → (m ≡ 0 → ⊥) → has (renewed width vectors places) m ≡ maps.contains_key vectors m
   has_placed m some = has_padded (slots_in_page width) saved m some ∙ has_saved m some
 
   pub apart_saved : Apart places → Apart saved
-  apart_saved apart = apart_filled (kept vectors places) (unplaced vectors places) (apart_kept vectors places apart) (apart_unplaced vectors places) apart_new
+  apart_saved apart = apart_filled (freed vectors places) (slotless vectors places) (apart_kept vectors places apart) (apart_unplaced vectors places) apart_new
 
-  pub apart_placed : Apart places → Apart (placed width vectors places)
+  pub apart_placed : Apart places → Apart (renewed width vectors places)
   apart_placed apart = apart_behind (slots_in_page width) saved ((slots_in_page width - length saved % slots_in_page width) % slots_in_page width) (apart_saved apart)
 
-  pub zero_unplaced : maps.contains_key vectors 0 ≡ false → has (unplaced vectors places) 0 ≡ false
+  pub zero_unplaced : maps.contains_key vectors 0 ≡ false → has (slotless vectors places) 0 ≡ false
   zero_unplaced none = has_unplaced vectors places 0 ∙ ap (λ (b : Bool). not (has places 0) && b) none ∙ and_false (not (has places 0))
     where
       and_false : (b : Bool) → (b && false) ≡ false
       and_false true = refl
       and_false false = refl
 
-  pub length-placed : 0 < slots_in_page width → Whole (length saved) (slots_in_page width) (length (placed width vectors places))
-  length-placed some =
+  pub length-renewed : 0 < slots_in_page width → Whole (length saved) (slots_in_page width) (length (renewed width vectors places))
+  length-renewed some =
       let zeros = (slots_in_page width - length saved % slots_in_page width) % slots_in_page width in
-      let long : length (placed width vectors places) ≡ length saved + zeros = length-append saved (replicate zeros 0) ∙ ap (λ (k : ℕ). length saved + k) (length-replicate zeros 0) in
+      let long : length (renewed width vectors places) ≡ length saved + zeros = length-append saved (replicate zeros 0) ∙ ap (λ (k : ℕ). length saved + k) (length-replicate zeros 0) in
       subst (Whole (length saved) (slots_in_page width)) (sym long) (whole_pages (length saved) (slots_in_page width) some)

@@ -16,7 +16,7 @@ use Rattle.page_layout.specs.Bodies.{Rows, AreRows, IsRow, rows_in, slots_in_pag
 use Rattle.page_layout.specs.Laws.{BodiesHaveOneSpelling, WrittenArePages}
 use Rattle.store_image.specs.declared.fault.StoreFault.{StoreFault}
 use Rattle.store_image.specs.declared.fault.StoreFault.TheVariants.{Damaged}
-use Rattle.store_image.specs.Images.{Image, Places, number_of}
+use Rattle.store_image.specs.Images.{Image, number_of}
 use Rattle.store_image.specs.Loading.{and_then, unless, in_page, head_in_pages, slots_in, page_limit, first_repeated, unless_repeated, counted, image_with, load_of}
 use Rattle.store_image.specs.Placing.{slot_for, rows_at}
 
@@ -102,7 +102,7 @@ slots_length v page (bytes ∷ more) rows is =
     omega (arith, mine, all, rest)
 
 -- pages that were written
-module _ (v : Values) (vectors : held.Rows) (ns : Places) (bodies : BodiesHaveOneSpelling) (written : WrittenArePages) (within : IsTrue (are_within v.metric v.dim v.eps v.minpts v.cap)) where
+module _ (v : Values) (vectors : held.Rows) (ns : List ℕ) (bodies : BodiesHaveOneSpelling) (written : WrittenArePages) (within : IsTrue (are_within v.metric v.dim v.eps v.minpts v.cap)) where
   abbrev width : ℕ
   width = width_of v.metric v.dim
 
@@ -116,7 +116,7 @@ module _ (v : Values) (vectors : held.Rows) (ns : Places) (bodies : BodiesHaveOn
   all_parts [] ys all = (tt, all)
   all_parts (x ∷ xs) ys all = let rest = all_parts xs ys all.1 in ((all.0, rest.0), rest.1)
 
-  abbrev left_from : ℕ → Places
+  abbrev left_from : ℕ → List ℕ
   left_from a = drop (size * a) ns
 
   body_read : (rows : Rows) → AreRows v rows → body_of v (body_page width rows) ≡ Ok rows
@@ -127,7 +127,7 @@ module _ (v : Values) (vectors : held.Rows) (ns : Places) (bodies : BodiesHaveOn
   part_is a = refl
 
   pub pages_read : (n a page : ℕ) → length (left_from a) ≡ n * size → AllByRecursion (IsRow v) (map (slot_for vectors) (left_from a)) → slots_in v page (pages_from a n) ≡ Ok (map (slot_for vectors) (left_from a))
-  pages_read zero a page long all = slots_none v page ∙ ap (λ (l : Places). Ok (map (slot_for vectors) l)) (sym (nil_from_length (left_from a) (omega (arith, long))))
+  pages_read zero a page long all = slots_none v page ∙ ap (λ (l : List ℕ). Ok (map (slot_for vectors) l)) (sym (nil_from_length (left_from a) (omega (arith, long))))
   pages_read (suc n) a page long all =
       let mine = take size (left_from a) in
       let rest = drop size (left_from a) in
@@ -139,10 +139,10 @@ module _ (v : Values) (vectors : held.Rows) (ns : Places) (bodies : BodiesHaveOn
       let more : length (left_from (a + 1)) ≡ n * size = ap length (sym next) ∙ length-drop size (left_from a) ∙ omega (arith, long) in
       let are : AreRows v (map (slot_for vectors) mine) = record { count = length-map mine (slot_for vectors) ∙ few; each = parts.0 } in
       let here : rows_at width vectors ns a ≡ map (slot_for vectors) mine = part_is a in
-      let others = pages_read n (a + 1) (page + 1) more (subst (λ (l : Places). AllByRecursion (IsRow v) (map (slot_for vectors) l)) next parts.1) in
+      let others = pages_read n (a + 1) (page + 1) more (subst (λ (l : List ℕ). AllByRecursion (IsRow v) (map (slot_for vectors) l)) next parts.1) in
       slots_cons v page (body_page width (rows_at width vectors ns a)) (pages_from (a + 1) n) (map (slot_for vectors) mine) (map (slot_for vectors) rest)
       (ap (λ (r : Rows). body_of v (body_page width r)) here ∙ body_read (map (slot_for vectors) mine) are)
-      (others ∙ ap (λ (l : Places). Ok (map (slot_for vectors) l)) (sym next))
+      (others ∙ ap (λ (l : List ℕ). Ok (map (slot_for vectors) l)) (sym next))
       ∙ ap Ok parted
 
 -- the head

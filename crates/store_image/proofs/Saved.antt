@@ -19,12 +19,14 @@ use Rattle.page_layout.specs.Fields.{Field, first_bad, unless_bad, zero_fields}
 use Rattle.page_layout.specs.Heads.{Values, HeadValue, IsHead, known_version, head_of, head_in, head_page, head_fields}
 use Rattle.page_layout.specs.Bodies.{Rows, IsRow, slots_in_page, body_page}
 use Rattle.page_layout.specs.Laws.{BodiesHaveOneSpelling, HeadsHaveOneSpelling, WrittenArePages}
-use Rattle.store_image.specs.Images.{Places, number_of, entry_of, vectors_of}
-use Rattle.store_image.specs.Loading.{in_page, head_in_pages, slots_in, page_limit, first_repeated, load_of, image_with}
-use Rattle.store_image.specs.Placing.{kept, unplaced, filled, placed, slot_for, rows_at, next_head, pages_with, saved_pages, writes_from, AreAt, CanStand, CanSave}
-use Rattle.store_image.specs.Steps.{Saves, saved_image}
+use Rattle.store_image.specs.Slots.{Places, by_slot, first_repeated, places_of}
+use Rattle.store_image.specs.Images.{number_of, entry_of, vectors_of}
+use Rattle.store_image.specs.Loading.{in_page, head_in_pages, slots_in, page_limit, load_of, image_with}
+use Rattle.store_image.specs.Placing.{kept, unplaced, filled, padded, placed, slot_for, rows_at, next_head, pages_with, saved_pages, writes_from, AreAt, CanStand, CanSave}
+use Rattle.store_image.specs.Steps.{Saves, freed, renewed, saved_image, slotless}
 use Rattle.store_image.proofs.Numbers.{has, Apart, once_apart, apart_once}
-use Rattle.store_image.proofs.Placed.{Whole, has_placed, apart_placed, apart_saved, has_saved, zero_unplaced, full_or_same, length-filled, length-kept, length-placed}
+use Rattle.store_image.proofs.Placed.{Whole, has_placed, apart_kept, apart_placed, apart_saved, has_saved, zero_unplaced, full_or_same, length-filled, length-freed, length-renewed, has_keys}
+use Rattle.store_image.proofs.Lying.{kept_is, slots_back, unplaced_is}
 use Rattle.store_image.proofs.Entries.{NoZero, is_used, count_used, len_used, record_so, slots_are_numbered, numbers_back, same_vectors}
 use Rattle.store_image.proofs.Reading.{read_head_is, head_value, head_in_is, slots_length, pages_read, load_passes}
 use Rattle.store_image.proofs.Counting.{cap_small}
@@ -85,7 +87,7 @@ module _ (v : Values) (vectors : held.Rows) (each : AllByRecursion (CanStand v) 
     | inr away ↦ away
   ]
 
-  pub rows_are : (ns : Places) → ((k : ℕ) → get_or ns k 0 < 2 ^ 32) → ((m : ℕ) → (m ≡ 0 → ⊥) → has ns m ≡ true → maps.contains_key vectors m ≡ true) → AllByRecursion (IsRow v) (map (slot_for vectors) ns)
+  pub rows_are : (ns : List ℕ) → ((k : ℕ) → get_or ns k 0 < 2 ^ 32) → ((m : ℕ) → (m ≡ 0 → ⊥) → has ns m ≡ true → maps.contains_key vectors m ≡ true) → AllByRecursion (IsRow v) (map (slot_for vectors) ns)
   rows_are [] small stands = tt
   rows_are (n ∷ ns) small stands = (at (n == 0) refl, rows_are ns (λ k. small (suc k)) (λ m some is. stands m some (or_right (n == m) (has ns m) is)))
     where
@@ -96,7 +98,7 @@ module _ (v : Values) (vectors : held.Rows) (each : AllByRecursion (CanStand v) 
           let stood = record_so vectors (CanStand v) n each (stands n some (or_left (n == n) (has ns n) (eq-eqb n n refl))) in
           record { number = some; small = small 0; count = refl; anchor = refl; label = refl; vector = stood.vector; spelled = stood.spelled }
 
-pub length-full : (vectors : held.Rows) (ns : Places) → has ns 0 ≡ false → length (flat_map entry_of (map (slot_for vectors) ns)) ≡ length ns
+pub length-full : (vectors : held.Rows) (ns : List ℕ) → has ns 0 ≡ false → length (flat_map entry_of (map (slot_for vectors) ns)) ≡ length ns
 length-full vectors [] none = refl
 length-full vectors (n ∷ ns) none =
     let parts = or_parts (n == 0) (has ns 0) none in
@@ -107,8 +109,17 @@ length-full vectors (n ∷ ns) none =
 pub slots_some : (width : ℕ) → IsWidth width → 0 < slots_in_page width
 slots_some width is = omega (arith, le-div 1 16368 (16 + width) (omega arith) (omega (arith, is.small)))
 
--- a save over pages that have a head and places
-module _ (h : HeadValue) (places : Places) (records : held.Held) (pages : List (List ℕ)) (heads : HeadsHaveOneSpelling) (bodies : BodiesHaveOneSpelling) (written_are : WrittenArePages) where
+-- pages have this head and, by slot, these numbers, each once
+pub record AreBySlot (h : HeadValue) (numbers : List ℕ) (pages : List (List ℕ)) : Type 0 where
+  pub rows : Rows
+  pub head : head_in_pages pages ≡ Ok h
+  pub slots : slots_in h.values 2 (drop 1 pages) ≡ Ok rows
+  pub few : length (drop 1 pages) ≤ page_limit h.values
+  pub numbers_are : numbers ≡ map number_of rows
+  pub once : first_repeated numbers ≡ None
+
+-- a save over pages that have a head and numbers by slot
+module _ (h : HeadValue) (places : List ℕ) (records : held.Held) (pages : List (List ℕ)) (heads : HeadsHaveOneSpelling) (bodies : BodiesHaveOneSpelling) (written_are : WrittenArePages) where
   abbrev v : Values
   v = h.values
 
@@ -121,8 +132,8 @@ module _ (h : HeadValue) (places : Places) (records : held.Held) (pages : List (
   abbrev vectors : held.Rows
   vectors = records.vectors
 
-  abbrev ns : Places
-  ns = placed width vectors places
+  abbrev ns : List ℕ
+  ns = renewed width vectors places
 
   abbrev next : HeadValue
   next = next_head h vectors ns
@@ -134,11 +145,10 @@ module _ (h : HeadValue) (places : Places) (records : held.Held) (pages : List (
   abbrev count : ℕ
   count = length ns / size
 
-  saved_is : saved_pages h places vectors ≡ pages_with next vectors ns
-  unfolding saved_pages
-  saved_is = refl
+  abbrev after : List (List ℕ)
+  after = pages_with next vectors ns
 
-  module _ (at : AreAt h places pages) (can : CanSave h records) (within : IsTrue (are_within v.metric v.dim v.eps v.minpts v.cap)) (wide : IsWidth width) (small : (k : ℕ) → get_or ns k 0 < 2 ^ 32) where
+  module _ (at : AreBySlot h places pages) (can : CanSave h records) (within : IsTrue (are_within v.metric v.dim v.eps v.minpts v.cap)) (wide : IsWidth width) (small : (k : ℕ) → get_or ns k 0 < 2 ^ 32) where
     some : 0 < size
     some = slots_some width wide
 
@@ -148,11 +158,11 @@ module _ (h : HeadValue) (places : Places) (records : held.Held) (pages : List (
     apart : Apart places
     apart = once_apart places at.once
 
-    abbrev full : Places
-    full = filled (kept vectors places) (unplaced vectors places)
+    abbrev full : List ℕ
+    full = filled (freed vectors places) (slotless vectors places)
 
     whole : Whole (length full) size (length ns)
-    whole = length-placed width vectors places some
+    whole = length-renewed width vectors places some
 
     count_is : count ≡ whole.pages
     count_is = ap (λ (n : ℕ). n / size) (whole.whole ∙ omega arith) ∙ div-mul-add whole.pages size 0 some
@@ -164,10 +174,10 @@ module _ (h : HeadValue) (places : Places) (records : held.Held) (pages : List (
     old_count = length (drop 1 pages)
 
     old_long : length places ≡ old_count * size
-    old_long = ap length at.numbers ∙ length-map at.rows number_of ∙ slots_length v 2 (drop 1 pages) at.rows at.slots
+    old_long = ap length at.numbers_are ∙ length-map at.rows number_of ∙ slots_length v 2 (drop 1 pages) at.rows at.slots
 
     full_long : length places ≤ length full
-    full_long = omega (arith, length-filled (kept vectors places) (unplaced vectors places), length-kept vectors places)
+    full_long = omega (arith, length-filled (freed vectors places) (slotless vectors places), length-freed vectors places)
 
     pub no_fewer : old_count ≤ count
     no_fewer = le-div old_count (length ns) size some (omega (arith, old_long, full_long, whole.more))
@@ -181,9 +191,9 @@ module _ (h : HeadValue) (places : Places) (records : held.Held) (pages : List (
         omega (arith, len, can.few)
 
     pub few : count ≤ page_limit v
-    few = elim (full_or_same (kept vectors places) (unplaced vectors places) (zero_unplaced width vectors places zero_away)) [
+    few = elim (full_or_same (freed vectors places) (slotless vectors places) (zero_unplaced width vectors places zero_away)) [
       | inl same ↦
-          let below : length ns < size * (old_count + 1) = omega (arith, whole.less, same, length-kept vectors places, old_long) in
+          let below : length ns < size * (old_count + 1) = omega (arith, whole.less, same, length-freed vectors places, old_long) in
           let le : count < old_count + 1 = div_below (length ns) size (old_count + 1) some (omega (arith, below)) in
           omega (arith, le, at.few)
       | inr none ↦ le-div count (v.cap + size - 1) size some (omega (arith, sym long, whole.less, all_used none))
@@ -223,8 +233,8 @@ module _ (h : HeadValue) (places : Places) (records : held.Held) (pages : List (
 
     rows_read : slots_in v 2 (drop 1 (pages_with next vectors ns)) ≡ Ok rows
     rows_read =
-        pages_read v vectors ns bodies written_are within count 0 2 (ap length start ∙ long) (subst (λ (l : Places). AllByRecursion (IsRow v) (map (slot_for vectors) l)) (sym start) rows_lawful)
-        ∙ ap (λ (l : Places). Ok (map (slot_for vectors) l)) start
+        pages_read v vectors ns bodies written_are within count 0 2 (ap length start ∙ long) (subst (λ (l : List ℕ). AllByRecursion (IsRow v) (map (slot_for vectors) l)) (sym start) rows_lawful)
+        ∙ ap (λ (l : List ℕ). Ok (map (slot_for vectors) l)) start
 
     body_count : length (drop 1 (pages_with next vectors ns)) ≡ count
     body_count = length-map-range_with_len (λ k. body_page width (rows_at width vectors ns k)) 0 count
@@ -244,24 +254,23 @@ module _ (h : HeadValue) (places : Places) (records : held.Held) (pages : List (
     image_back = λ i. record {
       head = next;
       records = record { width = sym can.width i; vectors = vectors_back i };
-      places = numbers_back vectors ns i;
+      places = places_of size (numbers_back vectors ns i);
     }
 
-    pub loads_saved : load_of (saved_pages h places vectors) ≡ Ok (saved_image h records ns)
+    pub loads_saved : load_of after ≡ Ok (saved_image h records ns)
     loads_saved =
-        ap load_of saved_is
-        ∙ load_passes (pages_with next vectors ns) next rows head_read rows_read (omega (arith, body_count, few)) (ap first_repeated (numbers_back vectors ns) ∙ once_after) used
+        load_passes after next rows head_read rows_read (omega (arith, body_count, few)) (ap first_repeated (numbers_back vectors ns) ∙ once_after) used
         ∙ ap Ok image_back
 
-    pub at_saved : AreAt next ns (saved_pages h places vectors)
-    at_saved = subst (AreAt next ns) (sym saved_is) (record {
+    pub at_saved : AreAt next (places_of size ns) after
+    at_saved = record {
       rows = rows;
       head = head_read;
       slots = rows_read;
       few = omega (arith, body_count, few);
-      numbers = sym (numbers_back vectors ns);
-      once = once_after;
-    })
+      places_are = ap (places_of size) (sym (numbers_back vectors ns));
+      once = ap first_repeated (numbers_back vectors ns) ∙ once_after;
+    }
 
     -- the head page differs, since there is one batch more
     head_differs : get_or pages 0 [] ≡ head_page next → ⊥
@@ -277,15 +286,14 @@ module _ (h : HeadValue) (places : Places) (records : held.Held) (pages : List (
     old_pages : length pages ≤ count + 1
     old_pages = omega (arith, length-drop 1 pages, no_fewer)
 
-    pub plan_saved : IsPlan pages (writes_from 1 pages (saved_pages h places vectors))
-    plan_saved = subst (λ (l : List (List ℕ)). IsPlan pages (writes_from 1 pages l)) (sym saved_is)
-        (plan_is pages (head_page next) (drop 1 (pages_with next vectors ns)) head_differs (omega (arith, old_pages, body_count)) (omega (arith, counted_next, body_count)))
+    pub plan_saved : IsPlan pages (writes_from 1 pages after)
+    plan_saved = plan_is pages (head_page next) (drop 1 after) head_differs (omega (arith, old_pages, body_count)) (omega (arith, counted_next, body_count))
 
-    pub written_saved : written pages (writes_from 1 pages (saved_pages h places vectors)) ≡ saved_pages h places vectors
-    written_saved = written_all pages (saved_pages h places vectors) (omega (arith, ap length saved_is, old_pages, body_count))
+    pub written_saved : written pages (writes_from 1 pages after) ≡ after
+    written_saved = written_all pages after (omega (arith, old_pages, body_count))
 
-    pub count_saved : new_count (writes_from 1 pages (saved_pages h places vectors)) ≡ count + 2
-    count_saved = ap (λ (l : List (List ℕ)). new_count (writes_from 1 pages l)) saved_is ∙ count_written pages (head_page next) (drop 1 (pages_with next vectors ns)) head_differs ∙ counted_next
+    pub count_saved : new_count (writes_from 1 pages after) ≡ count + 2
+    count_saved = count_written pages (head_page next) (drop 1 after) head_differs ∙ counted_next
 
     there : (k : ℕ) → (get_or ns k 0 ≡ 0 → ⊥) → IsTrue (maps.contains_key vectors (get_or ns k 0))
     there k used = elim (cases_lt k (length ns)) [
@@ -293,17 +301,70 @@ module _ (h : HeadValue) (places : Places) (records : held.Held) (pages : List (
       | inr past ↦ absurd (used (get_or_past ns k 0 past))
     ]
 
-    pub saves : Saves h places records pages ns
-    saves = record {
-      head = next_lawful;
-      small = count_small;
-      no_fewer = old_pages;
-      rows = rows_lawful;
-      there = there;
-      saved = saved_is;
-      plan = plan_saved;
-      written_is = written_saved;
-      count = count_saved;
-      loads = loads_saved;
-      at = at_saved;
-    }
+    -- what the rules on places give
+    module _ (lie : Places) (rules : saved_pages (length (drop 1 pages)) h lie vectors ≡ after) (are : ns ≡ placed width (length (drop 1 pages)) vectors lie) where
+      along : (P : List (List ℕ) → Type 0) → P after → P (saved_pages (length (drop 1 pages)) h lie vectors)
+      along P is = subst P (sym rules) is
+
+      pub saves_by : Saves h lie records pages ns
+      saves_by = record {
+        numbers_are = are;
+        once = record { some = some; few = omega (arith, div-le_self 16368 (16 + width)); once = once_after };
+        head = next_lawful;
+        small = count_small;
+        no_fewer = old_pages;
+        rows = rows_lawful;
+        there = there;
+        saved = rules;
+        plan = along (λ l. IsPlan pages (writes_from 1 pages l)) plan_saved;
+        written_is = along (λ l. written pages (writes_from 1 pages l) ≡ l) written_saved;
+        count = along (λ l. new_count (writes_from 1 pages l) ≡ count + 2) count_saved;
+        loads = along (λ l. load_of l ≡ Ok (saved_image h records ns)) loads_saved;
+        at = along (AreAt next (places_of size ns)) at_saved;
+      }
+
+-- a save over pages that have a head and places
+module _ (h : HeadValue) (places : Places) (records : held.Held) (pages : List (List ℕ)) (at : AreAt h places pages) (can : CanSave h records) (wide : IsWidth (width_of h.values.metric h.values.dim)) where
+  abbrev its_width : ℕ
+  its_width = width_of h.values.metric h.values.dim
+
+  abbrev its_size : ℕ
+  its_size = slots_in_page its_width
+
+  abbrev numbers : List ℕ
+  numbers = map number_of at.rows
+
+  abbrev body : ℕ
+  body = length (drop 1 pages)
+
+  -- the numbers by slot
+  pub slots_are : by_slot its_size (its_size * body) places ≡ numbers
+  slots_are =
+      ap (by_slot its_size (its_size * body)) at.places_are
+      ∙ slots_back its_size numbers (slots_some its_width wide) (once_apart numbers at.once) (its_size * body) (length-map at.rows number_of ∙ slots_length h.values 2 (drop 1 pages) at.rows at.slots ∙ omega arith)
+
+  kept_slots : by_slot its_size (its_size * body) (kept records.vectors places) ≡ freed records.vectors numbers
+  kept_slots =
+      ap (λ (p : Places). by_slot its_size (its_size * body) (kept records.vectors p)) at.places_are
+      ∙ ap (by_slot its_size (its_size * body)) (kept_is its_size records.vectors numbers)
+      ∙ slots_back its_size (freed records.vectors numbers) (slots_some its_width wide) (apart_kept records.vectors numbers (once_apart numbers at.once)) (its_size * body)
+      (length-freed records.vectors numbers ∙ length-map at.rows number_of ∙ slots_length h.values 2 (drop 1 pages) at.rows at.slots ∙ omega arith)
+
+  new_numbers : unplaced records.vectors places ≡ slotless records.vectors numbers
+  new_numbers =
+      ap (unplaced records.vectors) at.places_are
+      ∙ unplaced_is its_size records.vectors numbers (has_keys records.vectors 0 ∙ no_zero h.values records.vectors can.each)
+
+  pub placed_is : renewed its_width records.vectors numbers ≡ placed its_width body records.vectors places
+  placed_is =
+      ap (λ (l : List ℕ). padded its_size (filled l (slotless records.vectors numbers))) (sym kept_slots)
+      ∙ ap (λ (l : List ℕ). padded its_size (filled (by_slot its_size (its_size * body) (kept records.vectors places)) l)) (sym new_numbers)
+
+  pages_are : saved_pages body h places records.vectors ≡ pages_with (next_head h records.vectors (renewed its_width records.vectors numbers)) records.vectors (renewed its_width records.vectors numbers)
+  unfolding saved_pages
+  pages_are = ap (λ (l : List ℕ). pages_with (next_head h records.vectors l) records.vectors l) (sym placed_is)
+
+  pub saves : HeadsHaveOneSpelling → BodiesHaveOneSpelling → WrittenArePages → IsTrue (are_within h.values.metric h.values.dim h.values.eps h.values.minpts h.values.cap)
+      → ((k : ℕ) → get_or (renewed its_width records.vectors numbers) k 0 < 2 ^ 32) → Saves h places records pages (renewed its_width records.vectors numbers)
+  saves heads bodies written within small =
+      saves_by h numbers records pages heads bodies written (record { rows = at.rows; head = at.head; slots = at.slots; few = at.few; numbers_are = refl; once = at.once }) can within wide small places pages_are placed_is

@@ -14,7 +14,8 @@ use Rattle.std.proofs.lemmas.List.{get_or_default, take_more, take_more_set, dro
 use Rattle.std.proofs.lemmas.List.Folds.{list_any_none, list_any_at}
 use Rattle.std.proofs.lemmas.List.Sorted.{searched}
 use Rattle.vec_record.specs.Held as held
-use Rattle.store_image.specs.Placing.{kept, filled}
+use Rattle.store_image.specs.Placing.{filled}
+use Rattle.store_image.specs.Steps.{freed}
 use Rattle.store_image.proofs.Numbers.{has}
 use Rattle.store_image.proofs.Placed.{has_keys}
 
@@ -93,7 +94,7 @@ slot_left slots new i next lt none = stays_by slots new i next lt
     (ap (filled (get_or slots i 0 ∷ drop (i + 1) slots)) (drop_all next new none) ∙ ap (λ (l : List ℕ). get_or slots i 0 ∷ l) (sym (filled_none (drop (i + 1) slots)) ∙ ap (filled (drop (i + 1) slots)) (sym (drop_all next new none))))
 
 -- tests that agree keep the same numbers
-pub freed_is : (vectors : held.Rows) (ns : List ℕ) → map (λ n. cond (has (maps.keys vectors) n) n 0) ns ≡ kept vectors ns
+pub freed_is : (vectors : held.Rows) (ns : List ℕ) → map (λ n. cond (has (maps.keys vectors) n) n 0) ns ≡ freed vectors ns
 freed_is vectors [] = refl
 freed_is vectors (n ∷ ns) = ap (λ (b : Bool). cond b n 0 ∷ map (λ n. cond (has (maps.keys vectors) n) n 0) ns) (has_keys vectors n) ∙ ap (λ (l : List ℕ). cond (maps.contains_key vectors n) n 0 ∷ l) (freed_is vectors ns)
 

@@ -16,11 +16,12 @@ use Rattle.vec_record.specs.Held as held
 use Rattle.vec_record.specs.Limits.{width_of}
 use Rattle.page_layout.specs.declared.slot.Slot.{Slot}
 use Rattle.page_layout.specs.Heads.{Values}
-use Rattle.page_layout.specs.Bodies.{Rows, IsRow, IsSlot, body_of}
+use Rattle.page_layout.specs.Bodies.{Rows, IsRow, IsSlot, body_of, slots_in_page}
 use Rattle.store_image.specs.declared.fault.StoreFault.{StoreFault}
 use Rattle.store_image.specs.declared.fault.StoreFault.TheVariants.{Foreign, Damaged, Memory}
 use Rattle.store_image.specs.Loading.{and_then, in_page, slots_in, first_repeated, unless_repeated, Fails}
 use Rattle.store_image.specs.Steps.{slots_behind, repeats, MayRepeat, Taking, Took}
+use Rattle.store_image.specs.Slots.{places_of}
 use Rattle.store_image.specs.Images.{number_of, entry_of, vectors_of}
 use Rattle.store_image.specs.Placing.{CanStand}
 use Rattle.store_image.proofs.Numbers.{has, once_push, first_found}
@@ -164,12 +165,13 @@ taking_start v all records all_lawful is = record {
   stand = subst (λ (r : held.Held). AllByRecursion (CanStand v) (maps.entries r.vectors)) (sym is) (none_stand v);
 }
 
-pub taking_end : (v : Values) (all : Rows) (numbers : List ℕ) (records : held.Held) → Taking v all [] numbers records → Took v all numbers records
+pub taking_end : (v : Values) (all : Rows) (numbers : List ℕ) (records : held.Held) → Taking v all [] numbers records → Took v all (places_of (slots_in_page (width_of v.metric v.dim)) numbers) records
 taking_end v all numbers records t =
     let done : t.done ≡ all = sym (t.parts ∙ append-nil t.done) in
+    let are : numbers ≡ map number_of all = t.numbers_are ∙ ap (map number_of) done in
     record {
-      numbers_are = t.numbers_are ∙ ap (map number_of) done;
-      once = t.once;
+      places_are = ap (places_of (slots_in_page (width_of v.metric v.dim))) are;
+      once = ap first_repeated (sym are) ∙ t.once;
       records_are = t.records_are ∙ ap (λ (l : Rows). held_of (vectors_of l)) done;
       stand = t.stand;
     }

@@ -1,4 +1,4 @@
--- What a store in memory is: its head, its records, and the numbers by slot.
+-- What a store in memory is: its head, its records, and their places.
 use Rattle.std.specs.Prelude.{ℕ, List, [], ◌∷◌, Option, Some, None}
 use Rattle.std.specs.List.{flat_map}
 use Rattle.std.specs.FinMap as map
@@ -7,10 +7,7 @@ use Rattle.page_layout.specs.declared.slot.Slot.{Slot}
 use Rattle.page_layout.specs.Heads.{HeadValue, plain}
 use Rattle.page_layout.specs.Bodies.{Rows}
 use Rattle.store_image.specs.declared.loaded.Loaded.{Loaded}
-
--- the numbers by slot, over all record pages in their order; 0 where a slot is free
-abbrev pub Places : Type 0
-Places = List ℕ
+pub use Rattle.store_image.specs.Slots.{Places}
 
 -- a store: its head, its records, and their places
 pub record Image : Type 0 where

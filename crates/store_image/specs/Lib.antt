@@ -1,3 +1,4 @@
+pub mod Slots
 pub mod Images
 pub mod Loading
 pub mod Placing

@@ -1,6 +1,5 @@
 -- The load checks: what a list of pages, from page 1 on, says as a store, or the first check that fails.
-use Rattle.std.specs.Prelude.{◌≡◌, ℕ, ◌+◌, ◌-◌, ◌/◌, ◌%◌, ◌==◌, ◌&&◌, not, nat_le, if◌then◌else◌, Bool, List, [], ◌∷◌, ◌++◌, length, take, drop, map, find, get_or, count_by, Option, Some, None, Result, Ok, Err}
-use Rattle.std.specs.List.{list_any, range_with_len}
+use Rattle.std.specs.Prelude.{◌≡◌, ℕ, ◌+◌, ◌-◌, ◌/◌, ◌%◌, ◌==◌, not, nat_le, if◌then◌else◌, Bool, List, [], ◌∷◌, ◌++◌, length, drop, map, get_or, count_by, Option, Some, None, Result, Ok, Err}
 use Rattle.vec_record.specs.Limits.{width_of}
 use Rattle.page_layout.specs.declared.fault.LayoutFault as layout
 use Rattle.page_layout.specs.declared.fault.LayoutFault.TheVariants as layout_fault
@@ -9,6 +8,8 @@ use Rattle.page_layout.specs.Bodies.{Rows, slot_at, slots_in_page, body_of}
 use Rattle.store_image.specs.declared.fault.StoreFault.{StoreFault}
 use Rattle.store_image.specs.declared.fault.StoreFault.TheVariants.{Foreign, Damaged, Memory}
 use Rattle.store_image.specs.Images.{Image, number_of, vectors_of}
+use Rattle.store_image.specs.Slots.{places_of}
+pub use Rattle.store_image.specs.Slots.{is_repeated, first_repeated}
 
 -- what follows where a check passes
 abbrev pub and_then : {A B : Type 0} → Result A StoreFault → (A → Result B StoreFault) → Result B StoreFault
@@ -49,14 +50,6 @@ slots_in v page (bytes ∷ more) = and_then (in_page page (body_of v bytes)) (λ
 abbrev pub page_limit : Values → ℕ
 page_limit v = (v.cap + slots_in_page (width_of v.metric v.dim) - 1) / slots_in_page (width_of v.metric v.dim)
 
--- whether the number in a slot, counted over all pages, stands in an earlier slot too
-abbrev pub is_repeated : List ℕ → ℕ → Bool
-is_repeated numbers i = not (get_or numbers i 0 == 0) && list_any (λ n. n == get_or numbers i 0) (take i numbers)
-
--- the first such slot
-abbrev pub first_repeated : List ℕ → Option ℕ
-first_repeated numbers = find (is_repeated numbers) (range_with_len 0 (length numbers))
-
 -- each number stands in one slot, or else the later slot is damaged at its number
 abbrev pub unless_repeated : {A : Type 0} → ℕ → Option ℕ → Result A StoreFault → Result A StoreFault
 unless_repeated width None next = next
@@ -64,7 +57,11 @@ unless_repeated width (Some i) next = Err (Damaged (2 + i / slots_in_page width)
 
 -- what a head and the slots are as a store
 abbrev pub image_with : HeadValue → Rows → Image
-image_with h rows = record { head = h; records = record { width = width_of h.values.metric h.values.dim; vectors = vectors_of rows }; places = map number_of rows }
+image_with h rows = record {
+  head = h;
+  records = record { width = width_of h.values.metric h.values.dim; vectors = vectors_of rows };
+  places = places_of (slots_in_page (width_of h.values.metric h.values.dim)) (map number_of rows);
+}
 
 -- the checks behind the grammar of the pages: no more pages than needed, each number once, and as many records as the head says
 abbrev pub counted : HeadValue → ℕ → Rows → Result Image StoreFault

@@ -1,6 +1,6 @@
 -- What the content of a file is as a store: the verdict of an opening, the records, the batches and the parameters. All
 -- are functions of what the gate checks come to.
-use Rattle.std.specs.Prelude.{◌≡◌, ◌⊎◌, ◌↔◌, ℕ, true, List, [], ◌∷◌, drop, get_or, Option, Some, None, Result, Ok, Err}
+use Rattle.std.specs.Prelude.{◌≡◌, ◌⊎◌, ◌↔◌, ℕ, Bool, true, false, List, [], ◌∷◌, drop, get_or, Option, Some, None, IfSome, Result, Ok, Err}
 use Rattle.std.specs.List.{flat_map}
 use Rattle.std.specs.FinMap as map
 use Rattle.vec_record.specs.Held as held
@@ -62,9 +62,9 @@ batches_on c = batches_by (opening c)
 unfoldable pub params_on : List ℕ → Option Values
 params_on c = params_by (opening c)
 
--- a sound content is blank or opens
-abbrev pub IsSound : List ℕ → Type 0
-IsSound c = (is_blank c ≡ true) ⊎ (refusal_on c ≡ None)
+-- what is assumed of the content of a store that is served: it is blank or opens
+pub record IsSound (c : List ℕ) : Type 0 where
+  pub begins : (is_blank c ≡ true) ⊎ (refusal_on c ≡ None)
 
 -- an open store with these parameters, records and number of batches
 pub record IsStore (v : Values) (rows : held.Rows) (batches : ℕ) (c : List ℕ) : Type 0 where
@@ -80,6 +80,20 @@ pub record AreAlike (c d : List ℕ) : Type 0 where
   pub batches : batches_on c ≡ batches_on d
   pub params : params_on c ≡ params_on d
   pub sound : IsSound c ↔ IsSound d
+
+-- whether a refusal speaks of the content: a fault of the site and want of memory don't
+abbrev pub is_of_content : gate.OpenFault → Bool
+is_of_content open_fault.Blank = true
+is_of_content open_fault.Foreign = true
+is_of_content (open_fault.Damaged page offset) = true
+is_of_content open_fault.SiteFault = false
+is_of_content open_fault.Memory = false
+
+-- an opening, and a load of pages, are never refused by a fault of the site or by want of memory
+pub record RefusalsAreOfContents : Type 0 where
+  pub openings : (c : List ℕ) → IfSome (refusal_on c) (λ fault. is_of_content fault ≡ true)
+  pub gates : (c : List ℕ) (fault : gate.OpenFault) → opening c ≡ Refuses fault → is_of_content fault ≡ true
+  pub loads : (pages : List (List ℕ)) → load_of pages ≡ Err Memory → ⊥
 
 -- contents that the gate checks answer alike, with the same list of pages, are alike as stores
 abbrev pub SameOpeningsAreAlike : Type 0
@@ -100,7 +114,7 @@ pub record IsNew (h : HeadValue) : Type 0 where
 
 -- what a new store loads as: no records
 abbrev pub new_image : HeadValue → Image
-new_image h = record { head = h; records = record { width = width_of h.values.metric h.values.dim; vectors = map.empty }; places = [] }
+new_image h = record { head = h; records = record { width = width_of h.values.metric h.values.dim; vectors = map.empty }; places = map.empty }
 
 -- the head page of a new store, alone, loads as no records
 abbrev pub NewStoresLoad : Type 0

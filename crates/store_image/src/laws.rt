@@ -1,6 +1,6 @@
 //! Laws over the definitions. Each is the contract of a function that does nothing.
 
-ghost use Rattle.store_image.specs.Stores.{SameOpeningsAreAlike, LoadsAreStores, NewStoresLoad, HeadsCountPages};
+ghost use Rattle.store_image.specs.Stores.{SameOpeningsAreAlike, LoadsAreStores, NewStoresLoad, HeadsCountPages, RefusalsAreOfContents};
 
 use page_layout::laws::{heads_have_one_spelling, written_are_pages};
 
@@ -31,3 +31,9 @@ pub fn heads_count_pages()
     heads_have_one_spelling();
     written_are_pages();
 }
+
+/// An opening is refused for what the content is: never by a fault of the site, and never by want of
+/// memory.
+pub fn refusals_are_of_contents()
+    ensures { RefusalsAreOfContents }
+{}

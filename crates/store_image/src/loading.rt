@@ -151,7 +151,7 @@ fn take_rows(
     while let Some(row) = left.pop() {
         take_slot(params, row, &mut numbers, &mut records)?;
     }
-    Ok((records, Places::new(numbers)))
+    Ok((records, Places::new(slots_in_page(params), numbers)))
 }
 
 /// The most record pages: as many as hold the greatest number of records.

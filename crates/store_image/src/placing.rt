@@ -3,7 +3,8 @@
 ghost use Rattle.std.specs.Prelude.{◌≡◌, ◌<◌, ◌≤◌, ◌==◌, ℕ, not, if◌then◌else◌, [], ◌∷◌, ◌++◌, length, filter, map, drop, IfOk, OnOk};
 ghost use Rattle.std.specs.List.{list_any};
 ghost use Rattle.std.specs.List.Sorted.{IsNonDecreasing};
-ghost use Rattle.store_image.specs.Placing.{kept, unplaced, filled, padded};
+ghost use Rattle.store_image.specs.Placing.{filled, padded};
+ghost use Rattle.store_image.specs.Steps.{freed, slotless};
 
 use std::alloc::{AllocError, Global};
 use vec_record::{Number, Records};
@@ -96,7 +97,7 @@ pub(crate) fn place(
 ) -> Result<Vec<Number>, AllocError>
     requires some { 0 < size }
     requires few { size ≤ 16384 }
-    ensures { IfOk result (λ v. v.items ≡ padded size (filled (kept records.now.vectors places.now) (unplaced records.now.vectors places.now))) }
+    ensures { IfOk result (λ v. v.items ≡ padded size (filled (freed records.now.vectors places.now) (slotless records.now.vectors places.now))) }
 {
     let numbers = records.numbers()?;
     let sorted = rising(alloc, places)?;

@@ -1,6 +1,6 @@
 //! Which pages a save changes.
 
-ghost use Rattle.std.specs.Prelude.{◌≡◌, ◌≢◌, ◌<◌, ◌≤◌, ◌^◌, ◌+◌, ◌-◌, ◌*◌, ◌/◌, ℕ, not, [], ◌∷◌, ◌++◌, length, map, set, get_or, None, Some, Ok, IfOk, OnOk, OnErr, IsTrue};
+ghost use Rattle.std.specs.Prelude.{◌≡◌, ◌≢◌, ◌<◌, ◌≤◌, ◌^◌, ◌+◌, ◌-◌, ◌*◌, ◌/◌, ℕ, not, [], ◌∷◌, ◌++◌, length, map, set, get_or, None, Some, Ok, IfOk, OnOk, OnErr, IsTrue, slice_index};
 ghost use Rattle.std.specs.List.{AllByRecursion};
 ghost use Rattle.std.specs.FinMap as maps;
 ghost use Rattle.vec_record.specs.Vectors.{IsWidth};
@@ -10,7 +10,7 @@ ghost use Rattle.page_layout.specs.Bodies.{Rows, AreRows, IsRow, slots_in_page, 
 ghost use Rattle.page_gate.specs.Writes.{pairs, written, new_count, IsPlan};
 ghost use Rattle.store_image.specs.Images.{image_of};
 ghost use Rattle.store_image.specs.Loading.{load_of};
-ghost use Rattle.store_image.specs.Placing.{placed, slot_for, next_head, pages_with, saved_pages, writes_from, AreAt, CanSave};
+ghost use Rattle.store_image.specs.Placing.{slot_for, pages_with, writes_from, places_on, head_on, saved_on, AreAt, CanSave};
 ghost use Rattle.store_image.specs.Steps.{is_as_was, one_write, Saves};
 
 use crate::loaded::Loaded;
@@ -145,21 +145,29 @@ fn next_head(head: &Head, records: &Records, pages: usize) -> Head
     }
 }
 
-/// The numbers by slot after a save of a state. The pages are only what the contract speaks of.
-fn next_places(alloc: Global, _pages: &Pages, state: &Loaded) -> Result<Places, AllocError>
-    requires at { AreAt (plain state.now.head) state.now.places _pages.now.list }
+/// A slice of numbers holds numbers below 2 ^ 32 alone.
+fn known(numbers: &[Number]) -> &[Number]
+    ensures same { result.now ≡ numbers.now }
+    ensures small { (k : ℕ) → slice_index numbers.now k < 2 ^ 32 }
+{
+    numbers
+}
+
+/// The numbers by slot after a save of a state, over the pages that are there.
+fn next_numbers(alloc: Global, pages: &Pages, state: &Loaded) -> Result<Vec<Number>, AllocError>
+    requires at { AreAt (plain state.now.head) state.now.places pages.now.list }
     requires can { CanSave (plain state.now.head) state.now.records }
-    ensures placed { IfOk result (λ p. p ≡ placed (width_of state.now.head.params.metric state.now.head.params.dim) state.now.records.vectors state.now.places) }
-    ensures saves { IfOk result (λ p. Saves (plain state.now.head) state.now.places state.now.records _pages.now.list p) }
+    ensures { IfOk result (λ v. Saves (plain state.now.head) state.now.places state.now.records pages.now.list v.items) }
 {
     heads_have_one_spelling();
     bodies_have_one_spelling();
     written_are_pages();
     let size = slots_in_page(&state.head.params);
-    let numbers = place(alloc, &state.records, state.places.as_slice(), size)?;
-    let places = Places::new(numbers);
-    let _ = places.as_slice();
-    Ok(places)
+    let body = pages.count().saturating_sub(2);
+    let slots = state.places.by_slot(alloc, size, body)?;
+    let numbers = place(alloc, &state.records, &slots, size)?;
+    let _ = known(&numbers);
+    Ok(numbers)
 }
 
 /// Gives the records of a state their slots, and plans the pages that a commit then has to write. The
@@ -175,22 +183,23 @@ pub fn plan_save(
     ensures same { pages.new.list ≡ pages.old.list }
     ensures plan { IfOk result (λ w. IsPlan pages.old.list (pairs w)) }
     ensures room { IfOk result (λ w. new_count (pairs w) ≤ length pages.old.list + 1 + pages.new.spare) }
-    ensures writes { IfOk result (λ w. pairs w ≡ writes_from 1 pages.old.list (saved_pages (plain state.old.head) state.old.places state.old.records.vectors)) }
-    ensures written { IfOk result (λ w. written pages.old.list (pairs w) ≡ saved_pages (plain state.old.head) state.old.places state.old.records.vectors) }
-    ensures loads { OnOk result (load_of (saved_pages (plain state.old.head) state.old.places state.old.records.vectors) ≡ Ok (image_of state.new)) }
+    ensures writes { IfOk result (λ w. pairs w ≡ writes_from 1 pages.old.list (saved_on pages.old.list state.old)) }
+    ensures written { IfOk result (λ w. written pages.old.list (pairs w) ≡ saved_on pages.old.list state.old) }
+    ensures loads { OnOk result (load_of (saved_on pages.old.list state.old) ≡ Ok (image_of state.new)) }
     ensures records { OnOk result (state.new.records ≡ state.old.records) }
-    ensures places { OnOk result (state.new.places ≡ placed (width_of state.old.head.params.metric state.old.head.params.dim) state.old.records.vectors state.old.places) }
-    ensures head { OnOk result (plain state.new.head ≡ next_head (plain state.old.head) state.old.records.vectors state.new.places) }
-    ensures at { OnOk result (AreAt (plain state.new.head) state.new.places (saved_pages (plain state.old.head) state.old.places state.old.records.vectors)) }
+    ensures places { OnOk result (state.new.places ≡ places_on pages.old.list state.old) }
+    ensures head { OnOk result (plain state.new.head ≡ head_on pages.old.list state.old) }
+    ensures at { OnOk result (AreAt (plain state.new.head) state.new.places (saved_on pages.old.list state.old)) }
     ensures err { OnErr result (state.new ≡ state.old) }
 {
-    let places = next_places(alloc, pages, state)?;
-    let numbers = places.as_slice();
-    let count = numbers.len() / slots_in_page(&state.head.params);
+    let numbers = next_numbers(alloc, pages, state)?;
+    let slots = numbers.as_slice();
+    let size = slots_in_page(&state.head.params);
+    let count = slots.len() / size;
     let head = next_head(&state.head, &state.records, count);
     pages.reserve(count + 2 - pages.count() as usize)?;
-    let writes = plan_pages(alloc, pages, &head, &state.records, numbers)?;
+    let writes = plan_pages(alloc, pages, &head, &state.records, slots)?;
     state.head = head;
-    state.places = places;
+    state.places = Places::new(size, numbers);
     Ok(writes)
 }

@@ -1,5 +1,5 @@
 -- What an accepted batch leaves, and what a crash leaves at each moment of its saving.
-use Rattle.std.proofs.Common.{◌≡◌, ◌⊎◌, inl, inr, ℕ, ◌+◌, ◌++◌, Bool, true, false, List, map, drop, count_by, Result, Ok, refl, sym, ap, subst, ◌∙◌, codes}
+use Rattle.std.proofs.Common.{◌≡◌, ◌⊎◌, inl, inr, ℕ, ◌+◌, ◌++◌, Bool, true, false, List, length, drop, count_by, Result, Ok, refl, sym, ap, subst, ◌∙◌, codes}
 use Rattle.vec_record.specs.Held.{Held, Rows}
 use Rattle.vec_record.specs.declared.change.Change.{Change}
 use Rattle.vec_record.specs.declared.event.Event.{Event}
@@ -7,44 +7,31 @@ use Rattle.vec_record.specs.declared.kind.MetricKind.{MetricKind}
 use Rattle.plain_dbscan.specs.declared.marks.Mark.{Mark}
 use Rattle.site_disk.specs.State.{SiteState}
 use Rattle.page_gate.specs.Gate.{opening, Opens}
-use Rattle.page_layout.specs.Heads.{HeadValue, Values, plain}
-use Rattle.page_layout.specs.Bodies as body
+use Rattle.page_layout.specs.Heads.{Values, plain}
 use Rattle.store_image.specs.declared.loaded.Loaded.{Loaded}
-use Rattle.store_image.specs.Images.{Places, image_of, number_of}
-use Rattle.store_image.specs.Loading.{load_of, slots_in}
+use Rattle.store_image.specs.declared.fault.StoreFault.{StoreFault}
+use Rattle.store_image.specs.Images.{Image, image_of}
+use Rattle.store_image.specs.Loading.{load_of}
 use Rattle.store_image.specs.Placing.{AreAt, saved_pages}
 use Rattle.store_image.specs.Stores.{IsStore, LoadsAreStores}
 use Rattle.warehouse_core.specs.declared.refusal.Refusal.{Refusal}
-use Rattle.warehouse_core.specs.Applying.{Accepts, IsAfter, IsBefore, Steps, due}
+use Rattle.warehouse_core.specs.Applying.{Accepts, IsAfter, IsBefore, Steps, due, pages_after, pages_from}
 use Rattle.warehouse_core.specs.Batches.{events_of, marks_on, rows_after}
 use Rattle.warehouse_core.specs.Inside.{CanHold, Saves, Stands, state_of}
 use Rattle.warehouse_core.specs.Receipts.{batch_text, decline_text, growth_text, is_deletion, is_insertion, receipt_text}
 use Rattle.warehouse_core.specs.States.{State}
 use Rattle.warehouse_core.proofs.Moments.{opened_before, weaker}
 
-ok_same : {A E : Type 0} (x y : A) → ◌≡◌ {A = Result A E} (Ok x) (Ok y) → x ≡ y
-ok_same x y e = cc e
-
--- pages are at one head and have one list of numbers by slot
-same_head : (pages : List (List ℕ)) (h k : HeadValue) (here there : Places) → AreAt h here pages → AreAt k there pages → h ≡ k
-same_head pages h k here there a b = ok_same h k (sym a.head ∙ b.head)
-
-same_slots : (pages : List (List ℕ)) (h k : HeadValue) (here there : Places) → AreAt h here pages → AreAt k there pages → here ≡ there
-same_slots pages h k here there a b =
-    let head = same_head pages h k here there a b in
-    let rows : a.rows ≡ b.rows = ok_same a.rows b.rows (sym a.slots ∙ (ap (λ (x : HeadValue). slots_in x.values 2 (drop 1 pages)) head ∙ b.slots)) in
-    a.numbers ∙ (ap (λ (rs : body.Rows). map number_of rs) rows ∙ sym b.numbers)
-
-module _ (changes : List Change) (was is : Loaded) (before after : List (List ℕ)) (records : Held) (at : AreAt (plain was.head) was.places before)
-    (rows_are : records.vectors ≡ rows_after (plain was.head).values was.records.vectors changes) (pages_are : after ≡ saved_pages (plain was.head) was.places records.vectors) (loads : load_of after ≡ Ok (image_of is))
+module _ (changes : List Change) (was is : Loaded) (before after : List (List ℕ)) (records : Held) (loaded : load_of before ≡ Ok (image_of was))
+    (rows_are : records.vectors ≡ rows_after (plain was.head).values was.records.vectors changes) (pages_are : after ≡ saved_pages (length (drop 1 before)) (plain was.head) was.places records.vectors) (loads : load_of after ≡ Ok (image_of is))
     (records_are : is.records ≡ records) (values_are : (plain is.head).values ≡ (plain was.head).values) (batches_are : is.head.batches ≡ was.head.batches + 1) where
   vectors_are : is.records.vectors ≡ records.vectors
   vectors_are = ap (λ (h : Held). h.vectors) records_are
 
-  placed_as : (h : HeadValue) (places : Places) → AreAt h places before → after ≡ saved_pages h places is.records.vectors
-  placed_as h places here =
-      pages_are ∙ (ap (λ (x : HeadValue). saved_pages x was.places records.vectors) (same_head before (plain was.head) h was.places places at here)
-      ∙ (ap (λ (ps : Places). saved_pages h ps records.vectors) (same_slots before (plain was.head) h was.places places at here) ∙ ap (saved_pages h places) (sym vectors_are)))
+  placed_as : after ≡ pages_after before is.records.vectors
+  placed_as =
+      pages_are
+      ∙ (ap (saved_pages (length (drop 1 before)) (plain was.head) was.places) (sym vectors_are) ∙ ap (λ (r : Result Image StoreFault). pages_from (length (drop 1 before)) r is.records.vectors) (sym loaded))
 
   module _ (failed : Bool) (text more : List ℕ) (receipt : more ≡ text ++ receipt_text (was.head.batches + 1) changes (events_of (plain was.head).values was.records.vectors changes)) where
     taken : (body : List ℕ) → due (state_of was before true failed) body ≡ Ok changes → Accepts body (state_of was before true failed) (state_of is after true false) text more

@@ -27,7 +27,7 @@ module _ (d e : Density) (es : Entries) (near : (a b : ℕ) → is_near d es a b
   clusters_alike i a = label_of (cores_alike i) (λ x y. near x y i) (filter (cores_alike i) (numbers_of es)) a
 
   anchors_alike : (a : ℕ) → anchor_of d es a ≡ anchor_of e es a
-  anchors_alike a i = find (λ b. near a b i) (filter (cores_alike i) (numbers_of es))
+  anchors_alike a i = cond (cores_alike i a) None (find (λ b. near a b i) (filter (cores_alike i) (numbers_of es)))
 
   outer_alike : (o : Option ℕ) → outer_mark d es o ≡ outer_mark e es o
   outer_alike None = refl

@@ -21,7 +21,7 @@ use Rattle.plain_dbscan.specs.Cases.{cases_of}
 use Rattle.page_layout.specs.Heads.{Values}
 use Rattle.store_image.specs.Placing.{CanStand}
 use Rattle.batch_text.specs.After.{CanApply, after, after_from, and_then, changed}
-use Rattle.batch_text.specs.Batch.{Fits, IsSpelledChange}
+use Rattle.batch_text.specs.Batch.{IsChangeOf, IsSpelledChange}
 use Rattle.batch_text.specs.declared.faults.CheckFault.{CheckFault}
 use Rattle.batch_text.specs.declared.faults.CheckFault.TheVariants.{Repeated, Unknown, Full}
 use Rattle.warehouse_core.specs.Batches.{events_of, marks_on, or_else, rows_after}
@@ -84,11 +84,11 @@ module _ (P : ℕ × List ℕ → Type 0) (rows : Rows) (all : AllByRecursion P 
   all_changed : (c : Change) → OfInserted P c → AllByRecursion P (maps.entries (changed rows c))
   all_changed c new = each_found P (maps.entries (changed rows c)) (maps.entries_sorted (changed rows c)) (λ q v is. changed_so c new q v (maps.get-entries (changed rows c) q ∙ is))
 
-inserted_stands : (v : Values) (c : Change) → Fits (width_of v.metric v.dim) c → IsSpelledChange v.metric v.dim c → OfInserted (CanStand v) c
+inserted_stands : (v : Values) (c : Change) → IsChangeOf (width_of v.metric v.dim) c → IsSpelledChange v.metric v.dim c → OfInserted (CanStand v) c
 inserted_stands v (Insert n w) fits spelled = record { number = fits.0; vector = fits.1; spelled = spelled }
 inserted_stands v (Delete n) fits spelled = tt
 
-pub held_changed : (v : Values) (old new : Held) (c : Change) → AreHeld v old → Fits (width_of v.metric v.dim) c → IsSpelledChange v.metric v.dim c → new ≡ record { width = old.width; vectors = changed old.vectors c } → AreHeld v new
+pub held_changed : (v : Values) (old new : Held) (c : Change) → AreHeld v old → IsChangeOf (width_of v.metric v.dim) c → IsSpelledChange v.metric v.dim c → new ≡ record { width = old.width; vectors = changed old.vectors c } → AreHeld v new
 held_changed v old new c held fits spelled is =
     let P : Rows → Type 0 = λ rows. AllByRecursion (CanStand v) (maps.entries rows) in
     record {
@@ -143,7 +143,7 @@ applies place cap rows (Delete n) cs h = record {
 pub record Goes (v : Values) (start : Rows) (all : List Change) (records : Held) (marks : List (ℕ × Mark)) (events : List Event) (cs : List Change) : Type 0 where
   pub holds : CanHold v records
   pub marks_are : marks ≡ marks_on v records.vectors
-  pub fit : AllByRecursion (Fits (width_of v.metric v.dim)) cs
+  pub fit : AllByRecursion (IsChangeOf (width_of v.metric v.dim)) cs
   pub spelled : AllByRecursion (IsSpelledChange v.metric v.dim) cs
   pub rest : (place : ℕ) × (after_from place v.cap records.vectors cs ≡ after v.cap start all)
   pub events_are : events ++ events_of v records.vectors cs ≡ events_of v start all

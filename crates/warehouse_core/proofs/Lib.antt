@@ -4,3 +4,4 @@ pub mod Judged
 pub mod Alike
 pub mod Applied
 pub mod Accepted
+pub mod Numbered

@@ -1,10 +1,13 @@
 -- What one batch does to a warehouse and to its site.
-use Rattle.std.specs.Prelude.{◌≡◌, ◌⊎◌, ℕ, ◌+◌, ◌++◌, Bool, true, false, List, Result, Ok, Err}
+use Rattle.std.specs.Prelude.{◌≡◌, ◌⊎◌, ℕ, ◌+◌, ◌++◌, Bool, true, false, List, [], length, drop, Result, Ok, Err, IfErr}
 use Rattle.vec_record.specs.declared.change.Change.{Change}
 use Rattle.site_disk.specs.State.{SiteState, Safe}
-use Rattle.page_layout.specs.Heads.{HeadValue}
-use Rattle.store_image.specs.Images.{Places}
-use Rattle.store_image.specs.Placing.{AreAt, saved_pages}
+use Rattle.vec_record.specs.Held.{Rows}
+use Rattle.page_layout.specs.Heads.{Values}
+use Rattle.store_image.specs.declared.fault.StoreFault.{StoreFault}
+use Rattle.store_image.specs.Images.{Image}
+use Rattle.store_image.specs.Loading.{load_of}
+use Rattle.store_image.specs.Placing.{saved_pages}
 use Rattle.store_image.specs.Stores.{IsStore}
 use Rattle.warehouse_core.specs.declared.refusal.Refusal.{Refusal}
 use Rattle.warehouse_core.specs.declared.refusal.Refusal.TheVariants.{Malformed, WrongLength, Repeated, Unknown, Full, TooManyRecords, BatchesUsedUp, SiteFault, Memory}
@@ -28,6 +31,24 @@ is_numbered Memory = false
 abbrev pub due : State → List ℕ → Result (List Change) Refusal
 due w body = outcome w.values w.batches w.rows body
 
+-- what is due to a body is never a fault of the site and never want of memory
+abbrev pub DueAreNumbered : Type 0
+DueAreNumbered =
+    (v : Values) (batches : ℕ) (rows : Rows) (body : List ℕ)
+    → IfErr (outcome v batches rows body) (λ e. is_numbered e ≡ true)
+
+-- a refusal is answered, or memory is wanting in its place
+abbrev pub IsRefusedBy : Refusal → Result Unit Refusal → Type 0
+IsRefusedBy e result = (result ≡ Err e) ⊎ (result ≡ Err Memory)
+
+-- the pages that the rules of placing give where these records follow a list of pages; a stored list always loads
+abbrev pub pages_from : ℕ → Result Image StoreFault → Rows → List (List ℕ)
+pages_from body (Ok image) rows = saved_pages body image.head image.places rows
+pages_from body (Err fault) rows = []
+
+abbrev pub pages_after : List (List ℕ) → Rows → List (List ℕ)
+pages_after pages rows = pages_from (length (drop 1 pages)) (load_of pages) rows
+
 -- An accepted batch: its records, one batch more, and the receipt behind the text; the pages are those of the rules of
 -- placing, and load as the new records.
 pub record Accepts (body : List ℕ) (w next : State) (text more : List ℕ) : Type 0 where
@@ -39,7 +60,7 @@ pub record Accepts (body : List ℕ) (w next : State) (text more : List ℕ) : T
   pub stored : next.stored ≡ true
   pub failed : next.failed ≡ false
   pub receipt : more ≡ text ++ receipt_text (w.batches + 1) changes (events_of w.values w.rows changes)
-  pub pages : (h : HeadValue) (places : Places) → AreAt h places w.pages → next.pages ≡ saved_pages h places next.rows
+  pub pages : next.pages ≡ pages_after w.pages next.rows
   pub loads : LoadsAs next.pages next.values next.rows next.batches
 
 -- the store before the batch, or, where it is accepted, the one after it

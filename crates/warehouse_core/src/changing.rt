@@ -6,7 +6,7 @@ ghost use Rattle.vec_record.specs.Limits.{width_of};
 ghost use Rattle.plain_dbscan.specs.Cases.{cases_of};
 ghost use Rattle.page_layout.specs.Heads.{values_of};
 ghost use Rattle.batch_text.specs.After.{CanApply, after, changed};
-ghost use Rattle.batch_text.specs.Batch.{Fits, IsSpelledChange};
+ghost use Rattle.batch_text.specs.Batch.{IsChangeOf, IsSpelledChange};
 ghost use Rattle.warehouse_core.specs.Batches.{events_of, marks_on, rows_after};
 ghost use Rattle.warehouse_core.specs.Inside.{AreHeld, CanHold};
 
@@ -30,7 +30,7 @@ fn apply_one<M: Metric, L: Ledger>(
     requires kind { params.now.metric ≡ M.KIND }
     requires held { AreHeld (values_of params.now) records.old }
     requires marks { marks.old ≡ marks_on (values_of params.now) records.old.vectors }
-    requires fits { Fits (width_of params.now.metric params.now.dim) change }
+    requires fits { IsChangeOf (width_of params.now.metric params.now.dim) change }
     requires spelled { IsSpelledChange params.now.metric params.now.dim change }
     requires can { CanApply records.old.vectors change }
     ensures records { OnOk result (records.new.vectors ≡ changed records.old.vectors change) }
@@ -58,7 +58,7 @@ pub(crate) fn apply_changes<M: Metric, L: Ledger>(
     requires kind { params.now.metric ≡ M.KIND }
     requires holds { CanHold (values_of params.now) records.old }
     requires marks { marks.old ≡ marks_on (values_of params.now) records.old.vectors }
-    requires fits { AllByRecursion (Fits (width_of params.now.metric params.now.dim)) changes }
+    requires fits { AllByRecursion (IsChangeOf (width_of params.now.metric params.now.dim)) changes }
     requires spelled { AllByRecursion (IsSpelledChange params.now.metric params.now.dim) changes }
     requires accepted { IsOk (after params.now.cap records.old.vectors changes) }
     ensures records { OnOk result (records.new.vectors ≡ rows_after (values_of params.now) records.old.vectors changes) }

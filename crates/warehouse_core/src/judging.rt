@@ -4,7 +4,7 @@ ghost use Rattle.std.specs.List.{AllByRecursion};
 ghost use Rattle.vec_record.specs.Limits.{width_of};
 ghost use Rattle.page_layout.specs.Heads.{values_of};
 ghost use Rattle.batch_text.specs.After.{after};
-ghost use Rattle.batch_text.specs.Batch.{Fits, IsSpelledChange};
+ghost use Rattle.batch_text.specs.Batch.{IsChangeOf, IsSpelledChange};
 ghost use Rattle.warehouse_core.specs.declared.refusal.Refusal.TheVariants.{SiteFault};
 ghost use Rattle.warehouse_core.specs.Batches.{judged, outcome};
 ghost use Rattle.warehouse_core.specs.Applying.{is_numbered};
@@ -48,7 +48,7 @@ pub(crate) fn judge(
 ) -> Result<Changes, Refusal>
     requires { length body.now ≤ 67_108_864 }
     ensures ok { IfOk result (λ changes. outcome (values_of params.now) batches records.now.vectors body.now ≡ Ok changes) }
-    ensures fits { IfOk result (λ changes. AllByRecursion (Fits (width_of params.now.metric params.now.dim)) changes) }
+    ensures fits { IfOk result (λ changes. AllByRecursion (IsChangeOf (width_of params.now.metric params.now.dim)) changes) }
     ensures spelled { IfOk result (λ changes. AllByRecursion (IsSpelledChange params.now.metric params.now.dim) changes) }
     ensures accepted { IfOk result (λ changes. IsOk (after params.now.cap records.now.vectors changes)) }
     ensures batches { OnOk result (batches < 4294967295) }

@@ -8,6 +8,7 @@
 mod changing;
 mod clustering;
 mod judging;
+pub mod laws;
 mod queries;
 mod receipt;
 pub mod refusal;

@@ -5,8 +5,8 @@ ghost use Rattle.page_gate.specs.Promises.{Holds};
 ghost use Rattle.page_layout.specs.Heads.{plain};
 ghost use Rattle.store_image.specs.Images.{image_of};
 ghost use Rattle.store_image.specs.Loading.{load_of};
-ghost use Rattle.store_image.specs.Placing.{AreAt, CanSave, saved_pages};
-ghost use Rattle.warehouse_core.specs.declared.refusal.Refusal.TheVariants.{SiteFault};
+ghost use Rattle.store_image.specs.Placing.{AreAt, CanSave, saved_on};
+ghost use Rattle.warehouse_core.specs.declared.refusal.Refusal.TheVariants.{SiteFault, Memory};
 ghost use Rattle.warehouse_core.specs.Applying.{is_numbered};
 ghost use Rattle.warehouse_core.specs.Inside.{Saves};
 
@@ -41,7 +41,7 @@ pub(crate) fn save<T: Site>(
     requires at { AreAt (plain state.old.head) state.old.places pages.old.list }
     requires can { CanSave (plain state.old.head) state.old.records }
     requires ready { IsTrue T.tells → Holds pages.old.list (T.state site.old) }
-    ensures pages { OnOk result (pages.new.list ≡ saved_pages (plain state.old.head) state.old.places state.old.records.vectors) }
+    ensures pages { OnOk result (pages.new.list ≡ saved_on pages.old.list state.old) }
     ensures at { OnOk result (AreAt (plain state.new.head) state.new.places pages.new.list) }
     ensures loads { OnOk result (load_of pages.new.list ≡ Ok (image_of state.new)) }
     ensures records { OnOk result (state.new.records ≡ state.old.records) }
@@ -50,6 +50,7 @@ pub(crate) fn save<T: Site>(
     ensures text { OnOk result (out.new ≡ out.old ++ receipt.now) }
     ensures kept { OnErr result (out.new ≡ out.old) }
     ensures err { IfErr result (λ e. is_numbered e ≡ false) }
+    ensures unwritten { result ≡ Err Memory → site.new ≡ site.old }
     ensures fault { result ≡ Err SiteFault → Rose (T.faults site.old) (T.faults site.new) }
     ensures later { T.faults site.old ≤ T.faults site.new }
     ensures told { IsTrue T.tells → Saves pages.old.list (plain state.old.head).values state.old.records.vectors (state.old.head.batches + 1) pages.new.list result (T.state site.old) (T.state site.new) }

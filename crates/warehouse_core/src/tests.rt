@@ -169,7 +169,7 @@ fn is_due<L: Ledger>(
 
 /// How many of the batches give what is due to them, each over the store that the one before left.
 fn count_due_with<L: Ledger>(
-    alloc: Global,
+    rt: &HostRuntime,
     site: &mut MemSite,
     batches: &[Batch],
     blank: Blank,
@@ -178,7 +178,8 @@ fn count_due_with<L: Ledger>(
     requires parts { blank.parts ≡ L.parts }
     requires some { 0 < blank.parts }
 {
-    let mut steps = Steps::<L>::new(blank);
+    let alloc = rt.alloc();
+    let mut steps = Steps::<L>::new(rt, blank);
     let mut count = 0usize;
     for batch in batches {
         if is_due(alloc, site, batch, &mut steps) {
@@ -188,52 +189,50 @@ fn count_due_with<L: Ledger>(
     count
 }
 
-fn count_due(alloc: Global, site: &mut MemSite, batches: &[Batch]) -> usize {
-    count_due_with::<Brand>(alloc, site, batches, Blank::new(1))
+fn count_due(rt: &HostRuntime, site: &mut MemSite, batches: &[Batch]) -> usize {
+    count_due_with::<Brand>(rt, site, batches, Blank::new(1))
 }
 
 /// How many of the batches over a new store give what is due to them.
 fn count_due_anew(
-    alloc: Global,
+    rt: &HostRuntime,
     eps: u32,
     minpts: u32,
     cap: u32,
     batches: &[Batch],
 ) -> Result<usize, AllocError> {
+    let alloc = rt.alloc();
     let mut site = site_with(content(alloc, eps, minpts, cap, 0)?, None);
-    Ok(count_due(alloc, &mut site, batches))
+    Ok(count_due(rt, &mut site, batches))
 }
 
 #[test]
 fn deletion_in_a_row_of_five(rt: HostRuntime) -> Result<(), Fail> {
-    assert_eq!(rt; count_due_anew(rt.alloc(), 1, 2, 100, &FIVE_IN_A_ROW)?, 2);
+    assert_eq!(rt; count_due_anew(&rt, 1, 2, 100, &FIVE_IN_A_ROW)?, 2);
     Ok(())
 }
 
 #[test]
 fn two_clusters_merged(rt: HostRuntime) -> Result<(), Fail> {
-    assert_eq!(rt; count_due_anew(rt.alloc(), 1, 2, 100, &MERGED_BY_3)?, 2);
+    assert_eq!(rt; count_due_anew(&rt, 1, 2, 100, &MERGED_BY_3)?, 2);
     Ok(())
 }
 
 #[test]
 fn full_at_the_third(rt: HostRuntime) -> Result<(), Fail> {
-    assert_eq!(rt; count_due_anew(rt.alloc(), 1, 2, 2, &FULL_AT_THE_THIRD)?, 2);
+    assert_eq!(rt; count_due_anew(&rt, 1, 2, 2, &FULL_AT_THE_THIRD)?, 2);
     Ok(())
 }
 
 #[test]
 fn deleted_and_inserted_again(rt: HostRuntime) -> Result<(), Fail> {
-    assert_eq!(rt; count_due_anew(rt.alloc(), 0, 1, 100, &REPLACED)?, 3);
+    assert_eq!(rt; count_due_anew(&rt, 0, 1, 100, &REPLACED)?, 3);
     Ok(())
 }
 
 #[test]
 fn refused_at_the_fourth(rt: HostRuntime) -> Result<(), Fail> {
-    assert_eq!(rt;
-        count_due_anew(rt.alloc(), 1, 2, 100, &REFUSED_AT_THE_FOURTH)?,
-        3
-    );
+    assert_eq!(rt; count_due_anew(&rt, 1, 2, 100, &REFUSED_AT_THE_FOURTH)?, 3);
     Ok(())
 }
 
@@ -243,7 +242,7 @@ fn batch_numbers_used_up(rt: HostRuntime) -> Result<(), Fail> {
     let alloc = rt.alloc();
     let full = content(alloc, 1, 2, 100, u32::MAX)?;
     let mut site = site_with(content(alloc, 1, 2, 100, u32::MAX)?, None);
-    assert_eq!(rt; count_due(alloc, &mut site, &USED_UP), 1);
+    assert_eq!(rt; count_due(&rt, &mut site, &USED_UP), 1);
     assert!(rt; site.content() == full.as_slice());
     Ok(())
 }
@@ -281,29 +280,30 @@ fn has_marks(warehouse: &Warehouse<L1>) -> bool
     one && members && none && is_listed(warehouse.marks(), &MARKS_BETWEEN)
 }
 
-fn marks_between_with<L: Ledger>(alloc: Global, site: &mut MemSite, blank: Blank) -> bool
+fn marks_between_with<L: Ledger>(rt: &HostRuntime, site: &mut MemSite, blank: Blank) -> bool
     requires name { blank.name ≡ L.name }
     requires parts { blank.parts ≡ L.parts }
     requires some { 0 < blank.parts }
 {
-    let mut steps = Steps::<L>::new(blank);
+    let alloc = rt.alloc();
+    let mut steps = Steps::<L>::new(rt, blank);
     match opened(alloc, site, &mut steps) {
         Some(warehouse) => has_marks(&warehouse) && warehouse.batches() == 2,
         None => false,
     }
 }
 
-fn marks_between(alloc: Global, site: &mut MemSite) -> bool {
-    marks_between_with::<Brand>(alloc, site, Blank::new(1))
+fn marks_between(rt: &HostRuntime, site: &mut MemSite) -> bool {
+    marks_between_with::<Brand>(rt, site, Blank::new(1))
 }
 
 #[test]
 fn border_between_two_clusters(rt: HostRuntime) -> Result<(), Fail> {
     let alloc = rt.alloc();
     let mut site = site_with(content(alloc, 1, 4, 100, 0)?, None);
-    assert_eq!(rt; count_due(alloc, &mut site, &BORDER_BETWEEN), 2);
-    assert!(rt; marks_between(alloc, &mut site));
-    assert_eq!(rt; count_due(alloc, &mut site, &BORDER_GONE), 1);
+    assert_eq!(rt; count_due(&rt, &mut site, &BORDER_BETWEEN), 2);
+    assert!(rt; marks_between(&rt, &mut site));
+    assert_eq!(rt; count_due(&rt, &mut site, &BORDER_GONE), 1);
     Ok(())
 }
 
@@ -347,7 +347,7 @@ fn ends_well<L: Ledger>(alloc: Global, site: &mut MemSite, steps: &mut Steps<L>)
 }
 
 fn stopped_with<L: Ledger>(
-    alloc: Global,
+    rt: &HostRuntime,
     site: &mut MemSite,
     blank: Blank,
 ) -> Result<bool, AllocError>
@@ -355,14 +355,15 @@ fn stopped_with<L: Ledger>(
     requires parts { blank.parts ≡ L.parts }
     requires some { 0 < blank.parts }
 {
-    let mut steps = Steps::<L>::new(blank);
+    let alloc = rt.alloc();
+    let mut steps = Steps::<L>::new(rt, blank);
     let well = ends_well(alloc, site, &mut steps);
     let whole = count_whole(alloc, site, &mut steps)?;
     Ok(well && whole == 4)
 }
 
-fn stopped(alloc: Global, site: &mut MemSite) -> Result<bool, AllocError> {
-    stopped_with::<Brand>(alloc, site, Blank::new(1))
+fn stopped(rt: &HostRuntime, site: &mut MemSite) -> Result<bool, AllocError> {
+    stopped_with::<Brand>(rt, site, Blank::new(1))
 }
 
 /// A batch that is cut off after any call of the device leaves a store with it or without it.
@@ -371,7 +372,7 @@ fn cut_batches(rt: HostRuntime) -> Result<(), Fail> {
     let alloc = rt.alloc();
     for stop in 0..26 {
         let mut site = site_with(content(alloc, 1, 2, 100, 0)?, Some(stop));
-        let well = stopped(alloc, &mut site)?;
+        let well = stopped(&rt, &mut site)?;
         assert!(rt; well, "stop {stop}");
     }
     Ok(())

@@ -1,16 +1,16 @@
-ghost use Rattle.std.specs.Prelude.{◌≡◌, ◌≤◌, ◌<◌, ◌⊎◌, ℕ, List, Bool, true, false, [], ◌∷◌, ◌++◌, Ok, Err, None, length, IsTrue, IsOk, IfOk, OnOk, OnErr, IfErr, MatchResult};
+ghost use Rattle.std.specs.Prelude.{◌≡◌, ◌≤◌, ◌<◌, ◌⊎◌, ℕ, List, Bool, true, false, [], ◌∷◌, ◌++◌, Ok, Err, None, length, IsTrue, IsOk, IsErr, IfOk, OnOk, OnErr, IfErr, MatchResult};
 ghost use Rattle.site_disk.specs.Causes.{Rose};
 ghost use Rattle.page_gate.specs.Promises.{Holds};
 ghost use Rattle.std.specs.List.{AllByRecursion};
 ghost use Rattle.batch_text.specs.After.{after};
-ghost use Rattle.batch_text.specs.Batch.{Fits, IsSpelledChange};
+ghost use Rattle.batch_text.specs.Batch.{IsChangeOf, IsSpelledChange};
 ghost use Rattle.store_image.specs.Loading.{load_of, params_in_pages, Fails};
 ghost use Rattle.vec_record.specs.Limits.{width_of};
 ghost use Rattle.page_layout.specs.Heads.{Values, values_of};
 ghost use Rattle.warehouse_core.specs.Batches.{marks_on};
 ghost use Rattle.warehouse_core.specs.States.{State, LoadsAs};
 ghost use Rattle.warehouse_core.specs.Queries.{mark_on, members_of};
-ghost use Rattle.warehouse_core.specs.Applying.{Accepts, Steps as BatchSteps, due, is_numbered};
+ghost use Rattle.warehouse_core.specs.Applying.{Accepts, IsRefusedBy, Steps as BatchSteps, due, is_numbered};
 
 use crate::changing::apply_changes;
 use crate::clustering::cluster;
@@ -108,6 +108,14 @@ impl<M: Metric> Warehouse<M> {
         ensures site { IfErr result (λ e. is_numbered e ≡ true → site.new ≡ site.old) }
         ensures text { OnErr result (out.new ≡ out.old) }
 
+        // Over a body that a refusal is due to, that one is answered or memory is wanting, and no distance is counted.
+        ensures answered { IfErr (due self.old body.now) (λ e. IsRefusedBy e result) }
+        ensures uncounted { IsErr (due self.old body.now) → steps.new ≡ steps.old }
+        ensures accepted { result ≡ Err Refusal.SiteFault → IsOk (due self.old body.now) }
+
+        // After want of memory nothing was written.
+        ensures unwritten { result ≡ Err Refusal.Memory → site.new ≡ site.old }
+
         // After the other answers the warehouse has failed.
         ensures failed { IfErr result (λ e. is_numbered e ≡ false → self.new.failed ≡ true) }
         ensures fault { result ≡ Err Refusal.SiteFault → Rose (T.faults site.old) (T.faults site.new) }
@@ -143,13 +151,14 @@ impl<M: Metric> Warehouse<M> {
         requires whole { self.old.failed ≡ false }
         requires ready { IsTrue T.tells → Holds self.old.pages (T.state site.old) }
         requires batches { self.old.batches < 4294967295 }
-        requires fits { AllByRecursion (Fits (width_of self.old.values.metric self.old.values.dim)) changes }
+        requires fits { AllByRecursion (IsChangeOf (width_of self.old.values.metric self.old.values.dim)) changes }
         requires spelled { AllByRecursion (IsSpelledChange self.old.values.metric self.old.values.dim) changes }
         requires accepted { IsOk (after self.old.values.cap self.old.rows changes) }
         ensures ok { OnOk result ((body : List ℕ) → due self.old body ≡ Ok changes → Accepts body self.old self.new out.old out.new) }
         ensures ready { IsTrue T.tells → OnOk result (Holds self.new.pages (T.state site.new)) }
         ensures text { OnErr result (out.new ≡ out.old) }
         ensures err { IfErr result (λ e. is_numbered e ≡ false) }
+        ensures unwritten { result ≡ Err Refusal.Memory → site.new ≡ site.old }
         ensures failed { OnErr result (self.new.failed ≡ true) }
         ensures fault { result ≡ Err Refusal.SiteFault → Rose (T.faults site.old) (T.faults site.new) }
         ensures later { T.faults site.old ≤ T.faults site.new }

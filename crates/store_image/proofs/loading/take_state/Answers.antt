@@ -1,7 +1,6 @@
-use Rattle.std.proofs.Common.{◌≡◌, ◌≤◌, length, map, drop, None, sym, ◌∙◌, ap}
+use Rattle.std.proofs.Common.{◌≤◌, length, drop, sym, ◌∙◌}
 use Rattle.page_layout.specs.Heads.{values_of, plain}
-use Rattle.store_image.specs.Images.{number_of}
-use Rattle.store_image.specs.Loading.{page_limit, first_repeated}
+use Rattle.store_image.specs.Loading.{page_limit}
 use Rattle.store_image.proofs.Counting.{pages_few, rows_few, took_count, counted_otherwise}
 use Rattle.store_image.proofs.loading.take_state.Goals as goal
 
@@ -16,10 +15,9 @@ returns-then-len-head c =
     let v = values_of c.args.head.params in
     let rows = c.args.rows.items in
     let took = c.in_ok-records.ensures in
-    let once : first_repeated (map number_of rows) ≡ None = ap first_repeated (sym took.numbers_are) ∙ took.once in
     let count = took_count v rows c.in_ok-records.places c.in_ok-records.records c.requires.lawful took in
     let few : length (drop 1 c.args.pages.now.list) ≤ page_limit v = pages_few c.args.pages.now.list c.count.result c.saturating_sub-count.result c.page_limit.result _ c.count.ensures c.saturating_sub-count.ensures c.page_limit.ensures c.if-count-page_limit.false in
-    counted_otherwise (plain c.args.head) (length (drop 1 c.args.pages.now.list)) rows few once (λ is. c.if-len-head.true (c.len.ensures ∙ sym count ∙ is))
+    counted_otherwise (plain c.args.head) (length (drop 1 c.args.pages.now.list)) rows few took.once (λ is. c.if-len-head.true (c.len.ensures ∙ sym count ∙ is))
 
 pub returns : goal.returns
 returns c =
@@ -29,9 +27,9 @@ returns c =
     let count = took_count v rows c.in_ok-records.places c.in_ok-records.records c.requires.lawful took in
     let few : length (drop 1 c.args.pages.now.list) ≤ page_limit v = pages_few c.args.pages.now.list c.count.result c.saturating_sub-count.result c.page_limit.result _ c.count.ensures c.saturating_sub-count.ensures c.page_limit.ensures c.if-count-page_limit.false in
     record {
-      image = λ i. record { head = plain c.args.head; records = took.records_are i; places = took.numbers_are i };
+      image = λ i. record { head = plain c.args.head; records = took.records_are i; places = took.places_are i };
       fits = few;
-      once = ap first_repeated (sym took.numbers_are) ∙ took.once;
+      once = took.once;
       count = count ∙ sym c.len.ensures ∙ c.if-len-head.false;
       len = sym c.len.ensures ∙ c.if-len-head.false;
       stand = took.stand;

@@ -28,7 +28,7 @@ returns-clause-ok g c = λ body accepted.
     let line =
     counted_receipt (c.self.inside.state.head.batches + 1) c.count_insertions-insertions.result c.count_deletions-deletions.result c.args.changes c.as_slice-3.result.now _ c.in_ok-line.line c.in_ok-line.ensures
     (c.count_insertions-insertions.ensures ∙ ap (count_by is_insertion) c.as_slice.ensures) (c.count_deletions-deletions.ensures ∙ ap (count_by is_deletion) c.as_slice-2.ensures) (c.as_slice-3.ensures ∙ taken.events) in
-    accepts c.args.changes c.self.inside.state c.save.new.state c.self.inside.pages.list c.save.new.pages.list c.apply_changes.new.records standing.at taken.records saved.pages saved.loads saved.records saved.values saved.batches
+    accepts c.args.changes c.self.inside.state c.save.new.state c.self.inside.pages.list c.save.new.pages.list c.apply_changes.new.records standing.loads taken.records saved.pages saved.loads saved.records saved.values saved.batches
     _ c.args.out.now c.save.new.out (saved.text ∙ ap (λ (l : List ℕ). c.args.out.now ++ l) (c.as_slice-4.ensures ∙ line)) c.self.inside.stored c.args.self.now body c.self.view_is c.requires.stored accepted
 
 pub returns-clause-moments : goal.returns-clause-moments
