@@ -19,7 +19,7 @@ fn main(rt: HostRuntime) -> io::Result<()> {
             return Ok(());
         }
         let start = Instant::now(&rt)?;
-        let tree = insert_all::<Brand>(rt.alloc(), width, &vectors, Blank::new(1))?;
+        let tree = insert_all::<Brand>(&rt, width, &vectors, Blank::new(1))?;
         let time = start.elapsed(&rt)?.as_nanos();
         println!(rt; "{width} {time} {}", tree.height())?;
     }

@@ -101,7 +101,7 @@ fn measured<L: Ledger>(
     requires parts { blank.parts ≡ L.parts }
     requires some { 0 < blank.parts }
 {
-    let mut steps = Steps::<L>::new(blank);
+    let mut steps = Steps::<L>::new(rt, blank);
     let mut out = Numbers::new(rt.alloc());
     let mut found = 0u64;
     let start = Instant::now(rt)?;
@@ -131,7 +131,7 @@ fn main(rt: HostRuntime) -> io::Result<()> {
         if width == 0 || width > 512 {
             return Ok(());
         }
-        let tree = insert_all::<Brand>(rt.alloc(), width, &vectors, Blank::new(1))?;
+        let tree = insert_all::<Brand>(&rt, width, &vectors, Blank::new(1))?;
         let some = vectors.as_slice().get(..200).unwrap_or_default();
         for radius in [radii, radii, radii].as_flattened() {
             let [total, time, found] = measured::<Brand>(&rt, &tree, some, width, *radius, Blank::new(1))?;

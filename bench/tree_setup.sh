@@ -72,7 +72,7 @@ fn insert_next<L: Ledger>(
 }
 
 fn insert_all<L: Ledger>(
-    alloc: Global,
+    rt: &HostRuntime,
     width: u32,
     vectors: &[Vector],
     blank: Blank,
@@ -83,8 +83,8 @@ fn insert_all<L: Ledger>(
     requires some { 0 < blank.parts }
     ensures { IfOk result (λ t. t.width ≡ width) }
 {
-    let mut steps = Steps::<L>::new(blank);
-    let mut tree: MTree<L1> = MTree::empty(alloc, width);
+    let mut steps = Steps::<L>::new(rt, blank);
+    let mut tree: MTree<L1> = MTree::empty(rt.alloc(), width);
     let mut number = 1u32;
     for vector in vectors {
         if number < 100000 && vector.as_slice().len() == width as usize {

@@ -3,12 +3,13 @@ use Rattle.std.proofs.Common.{◌≡◌, ℕ, ◌+◌, ◌≤◌, true, false, c
 use Rattle.std.specs.Prelude.{◌==◌}
 use Rattle.std.specs.Option.{is_some}
 use Rattle.std.specs.Ordering.{nat_cmp, eq_by_cmp}
-use Rattle.std.specs.Cmp.{nat_cmp_total, unsigned_tied}
+use Rattle.std.specs.Cmp.{nat_cmp_total}
 use Rattle.std.proofs.lemmas.Bool.Decides.{eqb_tells}
 use Rattle.std.proofs.lemmas.Grind.{same_number_lists}
 use Rattle.std.specs.FinMap.{find, insert, from_entries, get-from_entries, get-insert, same_map, nat_cmp-IsAntisymmetric, len, len-insert, len-empty, contains_key}
 use Rattle.mtree_node.specs.declared.node.LeafEntry.{LeafEntry}
 use Rattle.mtree_node.specs.Tree.{record_of, AreDistinct}
+use Rattle.mtree_node.proofs.Distinct.{ties}
 use Rattle.mtree_index.proofs.Totals.{total, total-cons}
 
 -- a number of the vectors under one number alone
@@ -20,9 +21,6 @@ one v = 1
 
 abbrev pub at : ℕ → List LeafEntry → Option (List ℕ)
 at q es = find nat_cmp q (map record_of es)
-
-pub ties : (a b : ℕ) → ((eq_by_cmp nat_cmp a b ≡ true) × (a ≡ b)) ⊎ ((eq_by_cmp nat_cmp a b ≡ false) × (a ≡ b → ⊥))
-ties a b = rw (unsigned_tied a b) (eqb_tells a b)
 
 pub here : (q : ℕ) (g : List ℕ → ℕ) (n : ℕ) (v : List ℕ) → q ≡ n → under q g n v ≡ g v
 here q g n v e = elim (eqb_tells n q) [ inl t ↦ rw t.0 refl | inr f ↦ absurd (f.1 (sym e)) ]

@@ -2,7 +2,7 @@ mod AtPlaces
 pub mod Chosen
 pub mod Distinct
 pub mod Exact
-pub mod Grown
+pub mod Inserted
 pub mod Halves
 pub mod Height
 pub mod Kept
@@ -19,7 +19,7 @@ pub mod Widths
 pub mod Walks
 pub mod Joins
 pub mod Lost
-pub mod Shrunk
+pub mod Removed
 pub mod Small
 pub mod Opening
 pub mod Found

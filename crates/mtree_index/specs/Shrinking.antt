@@ -46,7 +46,7 @@ module _ (dist : List ℕ → List ℕ → ℕ) where
     after_removal number v t = shrunk_from (most t.width) number v t.width t.height t.root
 
     -- a tree before and after a removal, which takes the pair from what it holds
-    pub record IsShrunk (before after : PlainTree) (number : ℕ) (v : List ℕ) : Type 0 where
+    pub record IsRemoved (before after : PlainTree) (number : ℕ) (v : List ℕ) : Type 0 where
       pub tree : Some after ≡ after_removal number v before
       pub width : after.width ≡ before.width
       pub contents : contents after ≡ finite.remove (contents before) number

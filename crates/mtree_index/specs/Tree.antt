@@ -60,7 +60,7 @@ module _ (dist : List ℕ → List ℕ → ℕ) where
     after_insertion number v t = grown_from (most t.width) number v t.width t.height t.root
 
     -- a tree before and after an insertion, which adds the pair to what it holds
-    pub record IsGrown (before after : PlainTree) (number : ℕ) (v : List ℕ) : Type 0 where
+    pub record IsInserted (before after : PlainTree) (number : ℕ) (v : List ℕ) : Type 0 where
       pub tree : after ≡ after_insertion number v before
       pub width : after.width ≡ before.width
       pub contents : contents after ≡ finite.insert (contents before) number v

@@ -1,3 +1,5 @@
+//! Queries against scans, and their costs against those that `tools/tree_cases.py` computes.
+
 ghost use Rattle.std.specs.Prelude.{◌≡◌, ℕ, ◌+◌, ◌≤◌, ◌<◌, min, All, length, sum_by, OnOk, IfOk};
 ghost use Rattle.std.specs.List.{AllByRecursion};
 ghost use Rattle.vec_record.specs.Vectors.{IsVector, IsWidth};
@@ -9,7 +11,7 @@ ghost use Rattle.mtree_index.specs.Tree.{query_cost};
 use crate::MTree;
 use crate::expected::COSTS;
 use crate::pruning::is_skipped;
-use crate::tests::{grown, next_vector};
+use crate::tests::{EQUAL, PLANE, Vectors, grown, vector_of};
 use int_metric::L1;
 use mtree_node::{InnerEntry, LeafEntry, Node};
 use plain_dbscan::RangeIndex;
@@ -216,22 +218,27 @@ fn checked_cost<L: Ledger>(
     }
 }
 
-// The next vectors of the sequence.
-fn next_vectors(
+// The vectors of so many numbers from one on.
+fn vectors_of(
     alloc: Global,
-    state: &mut u32,
-    multiplier: u32,
+    vectors: Vectors,
+    first: u32,
     count: u32,
 ) -> Result<Vec<Vector>, AllocError>
+    requires width { vectors.width ≡ 2 }
+    requires some { 1 ≤ first }
+    requires few { first + count ≤ 1000 }
     ensures widths { IfOk result (λ v. AllByRecursion (λ x. length x ≡ 2) v.items) }
     ensures count { IfOk result (λ v. length v.items ≡ count) }
 {
-    let mut vectors = Vec::new(alloc);
+    let mut found = Vec::new(alloc);
+    let mut number = first;
     for _ in 0..count {
-        let vector = next_vector(alloc, state, multiplier)?;
-        vectors.push(vector)?;
+        let vector = vector_of(alloc, vectors, number)?;
+        found.push(vector)?;
+        number += 1;
     }
-    Ok(vectors)
+    Ok(found)
 }
 
 // Whether the queries with these centres cost what is expected, and answer as scans do.
@@ -260,11 +267,11 @@ fn are_as_expected<L: Ledger>(
     Ok(true)
 }
 
-fn table_holds<L: Ledger>(alloc: Global, steps: &mut Steps<L>) -> Result<bool, AllocError> {
-    let mut state = 1;
-    let vectors = next_vectors(alloc, &mut state, 1664525, 400)?;
-    let centres = next_vectors(alloc, &mut state, 1664525, 100)?;
-    let tree = grown::<Brand>(alloc, 400, 1664525, Blank::new(1))?;
+fn table_holds<L: Ledger>(rt: &HostRuntime, steps: &mut Steps<L>) -> Result<bool, AllocError> {
+    let alloc = rt.alloc();
+    let vectors = vectors_of(alloc, PLANE, 1, 400)?;
+    let centres = vectors_of(alloc, PLANE, 401, 100)?;
+    let tree = grown::<Brand>(rt, PLANE, 400, Blank::new(1))?;
     let [none, one, three, all] = [
         &COSTS[..100],
         &COSTS[100..200],
@@ -280,49 +287,49 @@ fn table_holds<L: Ledger>(alloc: Global, steps: &mut Steps<L>) -> Result<bool, A
 }
 
 fn equal_costs<L: Ledger>(
-    alloc: Global,
+    rt: &HostRuntime,
     count: u32,
     steps: &mut Steps<L>,
 ) -> Result<Option<u32>, AllocError>
     requires { count < 1000 }
 {
-    let mut state = 1;
-    let vectors = next_vectors(alloc, &mut state, 0, count)?;
-    let tree = grown::<Brand>(alloc, count, 0, Blank::new(1))?;
+    let alloc = rt.alloc();
+    let vectors = vectors_of(alloc, EQUAL, 1, count)?;
+    let tree = grown::<Brand>(rt, EQUAL, count, Blank::new(1))?;
     let mut out = Numbers::new(alloc);
-    let centre = next_vector(alloc, &mut state, 0)?;
+    let centre = vector_of(alloc, EQUAL, 1)?;
     checked_cost(&tree, &vectors, &centre, 0, &mut out, steps, alloc)
 }
 
-fn with_steps<L: Ledger>(alloc: Global, blank: Blank) -> Result<[Option<u32>; 2], AllocError>
+fn with_steps<L: Ledger>(rt: &HostRuntime, blank: Blank) -> Result<[Option<u32>; 2], AllocError>
     requires name { blank.name ≡ L.name }
     requires parts { blank.parts ≡ L.parts }
     requires some { 0 < blank.parts }
 {
-    let mut steps = Steps::<L>::new(blank);
-    let high = equal_costs(alloc, 31, &mut steps)?;
-    let low = equal_costs(alloc, 30, &mut steps)?;
+    let mut steps = Steps::<L>::new(rt, blank);
+    let high = equal_costs(rt, 31, &mut steps)?;
+    let low = equal_costs(rt, 30, &mut steps)?;
     Ok([high, low])
 }
 
-fn table_with_steps<L: Ledger>(alloc: Global, blank: Blank) -> Result<bool, AllocError>
+fn table_with_steps<L: Ledger>(rt: &HostRuntime, blank: Blank) -> Result<bool, AllocError>
     requires name { blank.name ≡ L.name }
     requires parts { blank.parts ≡ L.parts }
     requires some { 0 < blank.parts }
 {
-    let mut steps = Steps::<L>::new(blank);
-    table_holds(alloc, &mut steps)
+    let mut steps = Steps::<L>::new(rt, blank);
+    table_holds(rt, &mut steps)
 }
 
 #[test]
 fn queries_over_equal_vectors_cost_one_each(rt: HostRuntime) -> Result<(), Fail> {
-    let costs = with_steps::<Brand>(rt.alloc(), Blank::new(1))?;
+    let costs = with_steps::<Brand>(&rt, Blank::new(1))?;
     assert_eq!(rt; costs, [Some(33), Some(30)]);
     Ok(())
 }
 
 #[test]
 fn queries_answer_as_scans_and_cost_what_the_rules_say(rt: HostRuntime) -> Result<(), Fail> {
-    assert!(rt; table_with_steps::<Brand>(rt.alloc(), Blank::new(1))?);
+    assert!(rt; table_with_steps::<Brand>(&rt, Blank::new(1))?);
     Ok(())
 }

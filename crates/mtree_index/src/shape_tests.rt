@@ -1,20 +1,22 @@
+//! Trees against the lists of their nodes: what is built from them, and the tags that nodes get.
+
 ghost use Rattle.std.specs.Prelude.{◌≡◌, ℕ, ◌<◌, ◌≤◌, length, None, IfOk, IfSome};
 ghost use Rattle.std.specs.FinMap as map;
 ghost use Rattle.mtree_node.specs.Preorder.{size};
 ghost use Rattle.mtree_index.specs.Tree.{contents};
 
 use crate::MTree;
-use crate::tests::{insert_next, next_vector};
+use crate::tests::{PLANE, insert_next, vector_of};
 use int_metric::L1;
 use items::Items;
-use mtree_node::{BuildFault, Shape, Shapes, flatten};
+use mtree_node::{BuildFault, Shape, Shapes, flatten, height};
 use std::alloc::{AllocError, Global};
 use std::marker::Brand;
 use std::sync::ledger::{Blank, Ledger};
 use std::test::Fail;
-use vec_record::{Records, Steps};
+use vec_record::{Metric, Records, Steps};
 
-// A tree of the first vectors of the sequence, and the same vectors as records.
+// A tree of the first vectors, and the same vectors as records.
 fn grow_both<L: Ledger>(
     alloc: Global,
     count: u32,
@@ -24,11 +26,10 @@ fn grow_both<L: Ledger>(
     ensures same { IfOk result (λ both. contents both.0 ≡ both.1.vectors) }
     ensures width { IfOk result (λ both. both.0.width ≡ both.1.width) }
 {
-    let mut tree: MTree<L1> = MTree::empty(alloc, 2);
-    let mut records = Records::new(alloc, 2);
-    let mut state = 1;
+    let mut tree: MTree<L1> = MTree::empty(alloc, PLANE.width);
+    let mut records = Records::new(alloc, PLANE.width);
     for number in 1..count + 1 {
-        let vector = next_vector(alloc, &mut state, 1664525)?;
+        let vector = vector_of(alloc, PLANE, number)?;
         insert_next(&mut tree, number, &vector, steps)?;
         records.insert(number, vector)?;
     }
@@ -61,7 +62,8 @@ fn rebuilt<L: Ledger>(
     }
 }
 
-fn shapes_of(alloc: Global, tree: &MTree<L1>) -> Result<Shapes, AllocError>
+// The shapes of a tree's nodes. What the root says of itself is all that the call asks for, whatever the metric.
+fn shapes_of<M: Metric>(alloc: Global, tree: &MTree<M>) -> Result<Shapes, AllocError>
     ensures { IfOk result (λ shapes. IfSome tree.now.root (λ n. length shapes ≡ size tree.now.height n)) }
 {
     let Some(root) = tree.root() else {
@@ -71,12 +73,22 @@ fn shapes_of(alloc: Global, tree: &MTree<L1>) -> Result<Shapes, AllocError>
     Ok(shapes)
 }
 
-// 0, 1 and so on.
+// The number of levels, as the root has it.
+fn levels_of<M: Metric>(tree: &MTree<M>) -> u32
+    ensures { result ≡ tree.now.height }
+{
+    match tree.root() {
+        None => tree.height(),
+        Some(root) => height(root),
+    }
+}
+
+// 1, 2 and so on.
 fn numbers(alloc: Global, count: usize) -> Result<Vec<u32>, AllocError>
     ensures { IfOk result (λ v. length v.items ≡ count) }
 {
     let mut numbers = Vec::new(alloc);
-    let mut next = 0u32;
+    let mut next = 1u32;
     for _ in 0..count {
         numbers.push(next)?;
         next = next.wrapping_add(1);
@@ -84,11 +96,14 @@ fn numbers(alloc: Global, count: usize) -> Result<Vec<u32>, AllocError>
     Ok(numbers)
 }
 
-// Sets the tags of a tree's nodes to 0, 1 and so on, and gives its shapes then.
-fn tagged(alloc: Global, mut tree: MTree<L1>) -> Result<Shapes, AllocError> {
-    let tags = numbers(alloc, shapes_of(alloc, &tree)?.len())?;
+/// Sets the tags of a tree's nodes to 1, 2 and so on in preorder: as many as there are shapes.
+pub fn tag_nodes<M: Metric>(alloc: Global, tree: &mut MTree<M>) -> Result<(), AllocError>
+    ensures width { tree.new.width ≡ tree.old.width }
+    ensures contents { contents tree.new ≡ contents tree.old }
+{
+    let tags = numbers(alloc, shapes_of(alloc, tree)?.len())?;
     tree.retag(&tags);
-    shapes_of(alloc, &tree)
+    Ok(())
 }
 
 fn tag_of(shape: &Shape) -> u32 {
@@ -98,40 +113,40 @@ fn tag_of(shape: &Shape) -> u32 {
     }
 }
 
-// Whether the tags are 0, 1 and so on.
+// Whether the tags are 1, 2 and so on.
 fn are_in_turn(shapes: &Shapes) -> bool {
-    let mut next = 0u32;
+    let mut next = 1u32;
     for shape in shapes.as_slice() {
         if tag_of(shape) != next {
             return false;
         }
         next = next.wrapping_add(1);
     }
-    next > 0
+    next > 1
 }
 
 // Whether a tree of so many vectors is built again from its shapes, and gets tags.
-fn comes_back<L: Ledger>(alloc: Global, count: u32, blank: Blank) -> Result<bool, AllocError>
+fn comes_back<L: Ledger>(rt: &HostRuntime, count: u32, blank: Blank) -> Result<bool, AllocError>
     requires count { count < 1000 }
     requires name { blank.name ≡ L.name }
     requires parts { blank.parts ≡ L.parts }
     requires some { 0 < blank.parts }
 {
-    let mut steps = Steps::<L>::new(blank);
+    let alloc = rt.alloc();
+    let mut steps = Steps::<L>::new(rt, blank);
     let (tree, records) = grow_both(alloc, count, &mut steps)?;
-    let Some(built) = rebuilt(alloc, &tree, &records, &mut steps)? else {
+    let Some(mut built) = rebuilt(alloc, &tree, &records, &mut steps)? else {
         return Ok(false);
     };
-    Ok(are_in_turn(&tagged(alloc, built)?))
+    tag_nodes(alloc, &mut built)?;
+    let shapes = shapes_of(alloc, &built)?;
+    Ok(levels_of(&built) == tree.height() && are_in_turn(&shapes))
 }
 
 #[test]
 fn trees_come_back_from_their_shapes(rt: HostRuntime) -> Result<(), Fail> {
     for count in [1, 30, 31, 400, 700] {
-        assert!(rt;
-            comes_back::<Brand>(rt.alloc(), count, Blank::new(1))?,
-            "{count}"
-        );
+        assert!(rt; comes_back::<Brand>(&rt, count, Blank::new(1))?, "{count}");
     }
     Ok(())
 }

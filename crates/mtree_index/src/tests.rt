@@ -1,31 +1,85 @@
+//! Trees against those that the rules give, which `tools/tree_cases.py` computes apart from the program.
+
 ghost use Rattle.std.specs.Prelude.{◌≡◌, ℕ, ◌+◌, ◌<◌, ◌≤◌, length, None, OnOk, IfOk};
 ghost use Rattle.std.specs.FinMap as map;
 ghost use Rattle.mtree_index.specs.Tree.{contents};
 
 use crate::MTree;
-use crate::expected::{INNER, SHRUNK, SHRUNK_HIGH, TREE};
-use int_metric::L1;
+use crate::expected::{FAR_RUN, PLANE_RUN, Row, TREE};
+use crate::shape_tests::tag_nodes;
+use int_metric::{L1, Max};
 use mtree_node::{InnerEntry, LeafEntry, Node};
 use plain_dbscan::RangeIndex;
 use std::alloc::{AllocError, Global};
 use std::marker::Brand;
 use std::sync::ledger::{Blank, Ledger};
 use std::test::Fail;
-use vec_record::{Steps, Vector};
+use vec_record::{Metric, Steps, Vector};
 
-/// A vector of two coordinates: the upper five bits of the next two numbers of a sequence.
-pub fn next_vector(alloc: Global, state: &mut u32, multiplier: u32) -> Result<Vector, AllocError>
-    ensures { IfOk result (λ v. length v ≡ 2) }
+/// The vectors of a test by their numbers, from 1 on. Up to the number `scattered` the coordinates are the
+/// upper five bits of the next numbers of one sequence. All further vectors are equal, with coordinates of 255.
+#[derive(Clone, Copy)]
+pub struct Vectors {
+    pub width: u32,
+    pub scattered: u32,
+}
+
+pub const PLANE: Vectors = Vectors {
+    width: 2,
+    scattered: 1000,
+};
+
+pub const EQUAL: Vectors = Vectors {
+    width: 2,
+    scattered: 0,
+};
+
+const FAR: Vectors = Vectors {
+    width: 40,
+    scattered: 400,
+};
+
+fn next(state: u32) -> u32 {
+    state.wrapping_mul(1664525).wrapping_add(1013904223)
+}
+
+// The sequence's number after so many.
+fn number_after(count: u32) -> u32 {
+    let mut state = 1u32;
+    for _ in 0..count {
+        state = next(state);
+    }
+    state
+}
+
+// Fills coordinates from the numbers of the sequence behind this one.
+fn scatter(coordinates: &mut [u8], before: u32) {
+    let mut state = before;
+    for place in 0..coordinates.len() {
+        state = next(state);
+        coordinates[place] = (state >> 27) as u8;
+    }
+}
+
+/// The vector of a number.
+pub fn vector_of(alloc: Global, vectors: Vectors, number: u32) -> Result<Vector, AllocError>
+    requires width { vectors.width ≤ 40 }
+    requires some { 1 ≤ number }
+    requires few { number < 1000 }
+    ensures { IfOk result (λ v. length v ≡ vectors.width) }
 {
-    let first = state.wrapping_mul(multiplier).wrapping_add(1013904223);
-    let second = first.wrapping_mul(multiplier).wrapping_add(1013904223);
-    *state = second;
-    Vector::from_slice(alloc, &[(first >> 27) as u8, (second >> 27) as u8])
+    let mut coordinates = [255u8; 40];
+    let width = vectors.width as usize;
+    if number <= vectors.scattered {
+        let before = number_after((number - 1) * vectors.width);
+        scatter(&mut coordinates[..width], before);
+    }
+    Vector::from_slice(alloc, &coordinates[..width])
 }
 
 /// Inserts the next number of a sequence.
-pub fn insert_next<L: Ledger>(
-    tree: &mut MTree<L1>,
+pub fn insert_next<M: Metric, L: Ledger>(
+    tree: &mut MTree<M>,
     number: u32,
     vector: &Vector,
     steps: &mut Steps<L>,
@@ -42,40 +96,59 @@ pub fn insert_next<L: Ledger>(
     tree.insert(number, vector, steps)
 }
 
-// The tree of the first vectors of the sequence.
-fn grow<L: Ledger>(
+// Sets the tags of the nodes to 1, 2 and so on after each 300 insertions.
+fn tag_each_300<M: Metric>(
     alloc: Global,
-    count: u32,
-    multiplier: u32,
-    steps: &mut Steps<L>,
-) -> Result<MTree<L1>, AllocError>
-    requires count { count < 1000 }
-    ensures width { IfOk result (λ tree. tree.width ≡ 2) }
+    tree: &mut MTree<M>,
+    number: u32,
+) -> Result<(), AllocError>
+    ensures width { tree.new.width ≡ tree.old.width }
+    ensures contents { contents tree.new ≡ contents tree.old }
 {
-    let mut tree: MTree<L1> = MTree::empty(alloc, 2);
-    let mut state = 1;
+    if number % 300 == 0 {
+        tag_nodes(alloc, tree)
+    } else {
+        Ok(())
+    }
+}
+
+// The tree of the first vectors, with tags that were set on the way.
+fn grow<M: Metric, L: Ledger>(
+    alloc: Global,
+    vectors: Vectors,
+    count: u32,
+    steps: &mut Steps<L>,
+) -> Result<MTree<M>, AllocError>
+    requires width { (1 ≤ vectors.width) × (vectors.width ≤ 40) }
+    requires count { count < 1000 }
+    ensures width { IfOk result (λ tree. tree.width ≡ vectors.width) }
+{
+    let mut tree: MTree<M> = MTree::empty(alloc, vectors.width);
     for number in 1..count + 1 {
-        let vector = next_vector(alloc, &mut state, multiplier)?;
+        let vector = vector_of(alloc, vectors, number)?;
         insert_next(&mut tree, number, &vector, steps)?;
+        tag_each_300(alloc, &mut tree, number)?;
     }
     Ok(tree)
 }
 
 /// The same, with a count of its own.
 pub fn grown<L: Ledger>(
-    alloc: Global,
+    rt: &HostRuntime,
+    vectors: Vectors,
     count: u32,
-    multiplier: u32,
     blank: Blank,
 ) -> Result<MTree<L1>, AllocError>
+    requires width { (1 ≤ vectors.width) × (vectors.width ≤ 40) }
     requires count { count < 1000 }
     requires name { blank.name ≡ L.name }
     requires parts { blank.parts ≡ L.parts }
     requires some { 0 < blank.parts }
-    ensures { IfOk result (λ t. t.width ≡ 2) }
+    ensures { IfOk result (λ t. t.width ≡ vectors.width) }
 {
-    let mut steps = Steps::<L>::new(blank);
-    grow(alloc, count, multiplier, &mut steps)
+    let alloc = rt.alloc();
+    let mut steps = Steps::<L>::new(rt, blank);
+    grow(alloc, vectors, count, &mut steps)
 }
 
 fn show_leaf(entry: &LeafEntry, out: &mut Vec<u32>) -> Result<(), AllocError> {
@@ -100,7 +173,7 @@ fn show_head(kind: u32, tag: u32, entries: usize, out: &mut Vec<u32>) -> Result<
     Ok(())
 }
 
-// The nodes of the upper levels, each before its children.
+// The nodes from this one on, each before its children.
 #[cycle(show)]
 fn show(node: &Node, levels: u32, out: &mut Vec<u32>) -> Result<(), AllocError> {
     if levels == 0 {
@@ -132,30 +205,25 @@ fn show_below(entries: &[InnerEntry], levels: u32, out: &mut Vec<u32>) -> Result
     Ok(())
 }
 
-// The tree of the first vectors, without the lowest levels.
-fn shown(alloc: Global, count: u32, multiplier: u32, left_out: u32) -> Result<Vec<u32>, AllocError>
-    requires { count < 1000 }
-{
-    let tree = grown::<Brand>(alloc, count, multiplier, Blank::new(1))?;
+// A tree as the list of its nodes.
+fn list_of<M: Metric>(alloc: Global, tree: &MTree<M>) -> Result<Vec<u32>, AllocError> {
     let mut out = Vec::new(alloc);
     if let Some(root) = tree.root() {
-        show(root, tree.height().saturating_sub(left_out), &mut out)?;
+        show(root, tree.height(), &mut out)?;
     }
     Ok(out)
 }
 
 #[test]
 fn a_tree_is_the_one_that_the_rules_give(rt: HostRuntime) -> Result<(), Fail> {
-    let whole = shown(rt.alloc(), 400, 1664525, 0)?;
-    assert!(rt; whole.as_slice() == TREE.as_slice());
-    let inner = shown(rt.alloc(), 700, 1664525, 1)?;
-    assert!(rt; inner.as_slice() == INNER.as_slice());
+    let tree = grown::<Brand>(&rt, PLANE, 400, Blank::new(1))?;
+    assert!(rt; list_of(rt.alloc(), &tree)?.as_slice() == TREE.as_slice());
     Ok(())
 }
 
 // The tree of 31 equal vectors: the odd numbers are in the left leaf, the even ones in the right.
 const HALVES: [u32; 79] = [
-    1, 0, 2, 7, 7, 0, 0, 7, 7, 0, 0, //
+    1, 0, 2, 255, 255, 0, 0, 255, 255, 0, 0, //
     0, 0, 16, 1, 0, 3, 0, 5, 0, 7, 0, 9, 0, 11, 0, 13, 0, 15, 0, 17, 0, 19, 0, 21, 0, 23, 0, 25, 0,
     27, 0, 29, 0, 31, 0, //
     0, 0, 15, 2, 0, 4, 0, 6, 0, 8, 0, 10, 0, 12, 0, 14, 0, 16, 0, 18, 0, 20, 0, 22, 0, 24, 0, 26,
@@ -165,61 +233,38 @@ const HALVES: [u32; 79] = [
 #[test]
 fn equal_vectors_are_parted_in_turns(rt: HostRuntime) -> Result<(), Fail> {
     for (count, height) in [(0, 0), (1, 1), (30, 1), (31, 2)] {
-        let tree = grown::<Brand>(rt.alloc(), count, 0, Blank::new(1))?;
+        let tree = grown::<Brand>(&rt, EQUAL, count, Blank::new(1))?;
         assert_eq!(rt; tree.height(), height);
         assert_eq!(rt; tree.root().is_none(), count == 0);
+        let list = list_of(rt.alloc(), &tree)?;
+        assert!(rt; height < 2 || list.as_slice() == HALVES.as_slice());
     }
-    let halves = shown(rt.alloc(), 31, 0, 0)?;
-    assert!(rt; halves.as_slice() == HALVES.as_slice());
     Ok(())
 }
 
-// The vector of a number in the sequence.
-fn vector_of(alloc: Global, number: u32, multiplier: u32) -> Result<Vector, AllocError>
-    ensures { IfOk result (λ v. length v ≡ 2) }
-{
-    let mut state = 1u32;
-    for _ in 1..number {
-        state = state.wrapping_mul(multiplier).wrapping_add(1013904223);
-        state = state.wrapping_mul(multiplier).wrapping_add(1013904223);
-    }
-    next_vector(alloc, &mut state, multiplier)
-}
-
-// Removes the numbers `factor * k` modulo one of the sequence's vectors, and tells how many were found.
-fn remove_some<L: Ledger>(
+// Removes numbers, and tells how many were found.
+fn remove_some<M: Metric, L: Ledger>(
     alloc: Global,
-    tree: &mut MTree<L1>,
+    tree: &mut MTree<M>,
+    vectors: Vectors,
     range: (u32, u32),
-    order: (u32, u32),
-    multiplier: u32,
     steps: &mut Steps<L>,
 ) -> Result<u32, AllocError>
-    requires width { tree.old.width ≡ 2 }
+    requires width { tree.old.width ≡ vectors.width }
+    requires at_most { vectors.width ≤ 40 }
+    requires some { 1 ≤ range.0 }
     requires few { range.1 < 1000 }
-    requires factor { order.0 < 1000 }
-    requires some { 0 < order.1 }
-    ensures width { OnOk result (tree.new.width ≡ 2) }
+    ensures width { OnOk result (tree.new.width ≡ vectors.width) }
 {
     let (first, last) = range;
-    let (factor, modulus) = order;
     let mut found = 0u32;
-    for k in first..last + 1 {
-        let number = k * factor % modulus;
-        let vector = vector_of(alloc, number, multiplier)?;
+    for number in first..last + 1 {
+        let vector = vector_of(alloc, vectors, number)?;
         if tree.remove(number, &vector, steps)? {
             found = found.wrapping_add(1);
         }
     }
     Ok(found)
-}
-
-fn list_of(alloc: Global, tree: &MTree<L1>) -> Result<Vec<u32>, AllocError> {
-    let mut out = Vec::new(alloc);
-    if let Some(root) = tree.root() {
-        show(root, tree.height(), &mut out)?;
-    }
-    Ok(out)
 }
 
 fn digest(list: &[u32]) -> u32 {
@@ -230,62 +275,75 @@ fn digest(list: &[u32]) -> u32 {
     value
 }
 
-// Whether removals leave a tree of this height, length and digest.
-fn leaves_the_tree<L: Ledger>(
+// Whether a tree is that of a row. Its nodes then get the tags 1, 2 and so on.
+fn is_as_expected<M: Metric>(
     alloc: Global,
-    tree: &mut MTree<L1>,
-    range: (u32, u32),
-    modulus: u32,
-    row: (u32, usize, u32),
-    steps: &mut Steps<L>,
+    tree: &mut MTree<M>,
+    row: &Row,
 ) -> Result<bool, AllocError>
-    requires width { tree.old.width ≡ 2 }
-    requires few { range.1 < 1000 }
-    requires some { 0 < modulus }
-    ensures width { OnOk result (tree.new.width ≡ 2) }
+    ensures width { tree.new.width ≡ tree.old.width }
 {
-    let (height, length, sum) = row;
-    let found = remove_some(alloc, tree, range, (167, modulus), 1664525, steps)?;
     let list = list_of(alloc, tree)?;
-    let wanted = range.1.wrapping_sub(range.0).wrapping_add(1);
+    let (_, height, length, sum) = *row;
     let same = tree.height() == height && list.len() == length && digest(&list) == sum;
-    Ok(same && found == wanted)
+    tag_nodes(alloc, tree)?;
+    Ok(same)
 }
 
-// Whether the removals, so many at a time, leave the trees of the rows.
-fn leave_the_trees<L: Ledger>(
+// Whether the removals from the first number on leave the trees of the rows.
+fn leaves_the_trees<M: Metric, L: Ledger>(
     alloc: Global,
-    count: u32,
-    part: u32,
-    last: u32,
-    rows: &[(u32, usize, u32)],
-    blank: Blank,
+    tree: &mut MTree<M>,
+    vectors: Vectors,
+    rows: &[Row],
+    steps: &mut Steps<L>,
 ) -> Result<bool, AllocError>
-    requires count { count < 1000 }
-    requires last { last < 1000 }
-    requires name { blank.name ≡ L.name }
-    requires parts { blank.parts ≡ L.parts }
-    requires some { 0 < blank.parts }
+    requires width { tree.old.width ≡ vectors.width }
+    requires at_most { vectors.width ≤ 40 }
 {
-    let mut steps = Steps::<L>::new(blank);
-    let mut tree = grow(alloc, count, 1664525, &mut steps)?;
     let mut done = 0u32;
     for row in rows {
-        let range = (done.wrapping_add(1), done.wrapping_add(part).min(last));
-        if !leaves_the_tree(alloc, &mut tree, range, count + 1, *row, &mut steps)? {
+        let last = row.0.min(999);
+        let range = (done.saturating_add(1), last);
+        let found = remove_some(alloc, tree, vectors, range, steps)?;
+        if found != last.wrapping_sub(done) || !is_as_expected(alloc, tree, row)? {
             return Ok(false);
         }
-        done = range.1;
+        done = last;
     }
     Ok(true)
 }
 
+fn run_goes<M: Metric, L: Ledger>(
+    rt: &HostRuntime,
+    vectors: Vectors,
+    count: u32,
+    rows: &[Row],
+    blank: Blank,
+) -> Result<bool, AllocError>
+    requires width { (1 ≤ vectors.width) × (vectors.width ≤ 40) }
+    requires count { count < 1000 }
+    requires name { blank.name ≡ L.name }
+    requires parts { blank.parts ≡ L.parts }
+    requires some { 0 < blank.parts }
+{
+    let alloc = rt.alloc();
+    let mut steps = Steps::<L>::new(rt, blank);
+    let mut tree: MTree<M> = grow(alloc, vectors, count, &mut steps)?;
+    leaves_the_trees(alloc, &mut tree, vectors, rows, &mut steps)
+}
+
 #[test]
 fn removals_leave_the_trees_that_the_rules_give(rt: HostRuntime) -> Result<(), Fail> {
-    let low = leave_the_trees::<Brand>(rt.alloc(), 400, 40, 380, &SHRUNK, Blank::new(1))?;
-    assert!(rt; low);
-    let high = leave_the_trees::<Brand>(rt.alloc(), 700, 100, 690, &SHRUNK_HIGH, Blank::new(1))?;
-    assert!(rt; high);
+    let near = run_goes::<L1, Brand>(&rt, PLANE, 700, &PLANE_RUN, Blank::new(1))?;
+    assert!(rt; near);
+    Ok(())
+}
+
+#[test]
+fn far_removals_leave_the_trees_that_the_rules_give(rt: HostRuntime) -> Result<(), Fail> {
+    let far = run_goes::<Max, Brand>(&rt, FAR, 940, &FAR_RUN, Blank::new(1))?;
+    assert!(rt; far);
     Ok(())
 }
 
@@ -305,20 +363,22 @@ fn are_found<L: Ledger>(
     steps: &mut Steps<L>,
 ) -> Result<bool, AllocError>
     requires width { tree.old.width ≡ 2 }
+    requires some { 1 ≤ range.0 }
     requires few { range.1 < 1000 }
     ensures width { OnOk result (tree.new.width ≡ 2) }
 {
-    let removed = remove_some(alloc, tree, range, (1, 401), 0, steps)?;
+    let removed = remove_some(alloc, tree, EQUAL, range, steps)?;
     Ok(removed == found && tree.height() == height)
 }
 
-fn equal_vectors_go<L: Ledger>(alloc: Global, blank: Blank) -> Result<bool, AllocError>
+fn equal_vectors_go<L: Ledger>(rt: &HostRuntime, blank: Blank) -> Result<bool, AllocError>
     requires name { blank.name ≡ L.name }
     requires parts { blank.parts ≡ L.parts }
     requires some { 0 < blank.parts }
 {
-    let mut steps = Steps::<L>::new(blank);
-    let mut tree = grow(alloc, 31, 0, &mut steps)?;
+    let alloc = rt.alloc();
+    let mut steps = Steps::<L>::new(rt, blank);
+    let mut tree = grow(alloc, EQUAL, 31, &mut steps)?;
     let high = are_found(alloc, &mut tree, (1, 17), 17, 2, &mut steps)?;
     let low = are_found(alloc, &mut tree, (18, 18), 1, 1, &mut steps)?;
     let list = list_of(alloc, &tree)?;
@@ -330,7 +390,7 @@ fn equal_vectors_go<L: Ledger>(alloc: Global, blank: Blank) -> Result<bool, Allo
 
 #[test]
 fn a_leaf_with_too_few_joins_its_sibling(rt: HostRuntime) -> Result<(), Fail> {
-    let gone = equal_vectors_go::<Brand>(rt.alloc(), Blank::new(1))?;
+    let gone = equal_vectors_go::<Brand>(&rt, Blank::new(1))?;
     assert!(rt; gone);
     Ok(())
 }

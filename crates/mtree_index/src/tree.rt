@@ -6,11 +6,11 @@ ghost use Rattle.mtree_node.specs.declared.node.Node.{Node as PlainNode};
 ghost use Rattle.mtree_node.specs.declared.shape.BadPlace.{BadPlace as Place};
 ghost use Rattle.mtree_node.specs.declared.shape.BuildFault.TheVariants.{Bad};
 ghost use Rattle.mtree_node.specs.Preorder.{size, retagged};
-ghost use Rattle.mtree_node.specs.Tree.{IsLeveled, IsTree};
+ghost use Rattle.mtree_node.specs.Tree.{IsLeveled, IsLevel, IsTree};
 ghost use Rattle.mtree_node.specs.Walk.{first_failing, IsTreeOf, CanBeBuilt};
 ghost use Rattle.mtree_index.specs.Found.{numbers_within};
-ghost use Rattle.mtree_index.specs.Tree.{contents, leaves_of, query_cost, root_cost, IsRoot, IsGrown, grown_from};
-ghost use Rattle.mtree_index.specs.Shrinking.{IsShrunk};
+ghost use Rattle.mtree_index.specs.Tree.{contents, leaves_of, query_cost, root_cost, IsRoot, IsLawful, IsInserted, grown_from};
+ghost use Rattle.mtree_index.specs.Shrinking.{IsRemoved};
 
 use crate::insertion::insert_below;
 use crate::query::search;
@@ -67,11 +67,15 @@ impl<M: Metric> MTree<M> {
         }
     }
 
-    /// The root, none exactly where the tree is empty. A tree has at most 6 levels.
+    /// The root, none exactly where the tree is empty. A tree has at most 6 levels, and what
+    /// [`mtree_node::flatten`], [`mtree_node::height`] and [`mtree_node::retag`] ask of a node holds of its root.
     pub fn root(&self) -> Option<&Node>
         ensures low { self.now.height ≤ 6 }
         ensures is { option_copied result ≡ self.now.root }
         ensures tree { IfSome result (λ n. IsTree M.dist self.now.width (M.most self.now.width) self.now.height n.now) }
+        ensures lawful { IsLawful M.dist M.most self.now }
+        ensures level { IfSome result (λ n. IsLevel n.now) }
+        ensures leveled { IfSome result (λ n. IsLeveled self.now.height n.now) }
     {
         self.root.as_ref()
     }
@@ -137,13 +141,13 @@ impl<M: Metric> RangeIndex<M> for MTree<M> {
 
     ghost cost = { query_cost M.dist };
 
-    ghost grown = { IsGrown M.dist M.most };
+    ghost inserted = { IsInserted M.dist M.most };
 
-    ghost grows = { λ before after n v g. (g.width, g.contents) };
+    ghost inserts = { λ before after n v g. (g.width, g.contents) };
 
-    ghost shrunk = { IsShrunk M.dist M.most };
+    ghost removed = { IsRemoved M.dist M.most };
 
-    ghost shrinks = { λ before after n v s. (s.width, s.contents) };
+    ghost removes = { λ before after n v s. (s.width, s.contents) };
 
     fn range<L: Ledger>(
         &self,

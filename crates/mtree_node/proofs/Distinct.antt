@@ -24,7 +24,7 @@ times-cons number e es = sum_by-cons (λ (x : LeafEntry). cond (x.number == numb
 once : (a b : ℕ) → a ≡ b → ◌≡◌ {A = ℕ} (cond (a == b) 1 0) 1
 once a b same = rw (eq-eqb a b same) refl
 
-ties : (a b : ℕ) → ((eq_by_cmp nat_cmp a b ≡ true) × (a ≡ b)) ⊎ ((eq_by_cmp nat_cmp a b ≡ false) × (a ≡ b → ⊥))
+pub ties : (a b : ℕ) → ((eq_by_cmp nat_cmp a b ≡ true) × (a ≡ b)) ⊎ ((eq_by_cmp nat_cmp a b ≡ false) × (a ≡ b → ⊥))
 ties a b = rw (unsigned_tied a b) (eqb_tells a b)
 
 -- a number that stands nowhere has no record

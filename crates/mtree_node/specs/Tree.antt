@@ -40,6 +40,10 @@ abbrev pub IsLeveled : ℕ → Node → Type 0
 IsLeveled zero n = ⊥
 IsLeveled (suc h) n = IsLeveledIn h (IsLeveled h) (out-Node n)
 
+-- what a walk over all nodes asks of a tree: its leaves are all on one level, of at most 6
+abbrev pub IsLevel : Node → Type 0
+IsLevel n = (levels : ℕ) × (levels ≤ 6) × IsLeveled levels n
+
 -- a node has at most 30 entries, and at least 7. The root has at least its own lower bound
 abbrev pub IsFilled : Option (List ℕ) → ℕ → ℕ → Type 0
 IsFilled None low entries = (low ≤ entries) × (entries ≤ 30)

@@ -190,7 +190,7 @@ fn can_be_built(height: u32, shapes: &Shapes, records: &Records) -> bool
 // What is built of a tree of a height after changes: its height, or the place that fails. Nothing where the
 // list can't be asked for.
 fn built<L: Ledger>(
-    alloc: Global,
+    rt: &HostRuntime,
     height_given: u32,
     changes: &[Change],
     blank: Blank,
@@ -199,7 +199,8 @@ fn built<L: Ledger>(
     requires parts { blank.parts ≡ L.parts }
     requires some { 0 < blank.parts }
 {
-    let mut steps = Steps::<L>::new(blank);
+    let alloc = rt.alloc();
+    let mut steps = Steps::<L>::new(rt, blank);
     let (mut shapes, mut count) = tree(alloc, height_given)?;
     for change in changes {
         spoil(alloc, &mut shapes, *change)?;
@@ -220,7 +221,7 @@ fn built<L: Ledger>(
 }
 
 // A height, changes, and the node, entry and kind of the place that fails first.
-const SPOILED: [(u32, &[Change], u32, u32, BadWhat); 16] = [
+const SPOILED: [(u32, &[Change], u32, u32, BadWhat); 18] = [
     // a place that isn't the next one, and one past the list
     (2, &[Change::Names(0, 1, 1)], 0, 1, BadWhat::Child),
     (3, &[Change::Names(1, 2, 17)], 1, 2, BadWhat::Child),
@@ -265,12 +266,27 @@ const SPOILED: [(u32, &[Change], u32, u32, BadWhat); 16] = [
         1,
         BadWhat::Number,
     ),
+    // the parent distance is tested before the child's place, in the root and below it
+    (
+        2,
+        &[Change::Names(0, 1, 1), Change::Parent(0, 1, 1)],
+        0,
+        1,
+        BadWhat::Parent,
+    ),
+    (
+        3,
+        &[Change::Names(1, 2, 17), Change::Parent(1, 2, 1)],
+        1,
+        2,
+        BadWhat::Parent,
+    ),
 ];
 
 #[test]
 fn trees_of_each_height_are_built(rt: HostRuntime) -> Result<(), Fail> {
     for height in 0..4u32 {
-        let found = built::<Brand>(rt.alloc(), height, &[], Blank::new(1))?;
+        let found = built::<Brand>(&rt, height, &[], Blank::new(1))?;
         assert!(rt; found == Some(Ok(height)), "{height}");
     }
     Ok(())
@@ -279,7 +295,7 @@ fn trees_of_each_height_are_built(rt: HostRuntime) -> Result<(), Fail> {
 #[test]
 fn the_first_failing_place_is_named(rt: HostRuntime) -> Result<(), Fail> {
     for (height, changes, node, entry, what) in SPOILED {
-        let found = built::<Brand>(rt.alloc(), height, changes, Blank::new(1))?;
+        let found = built::<Brand>(&rt, height, changes, Blank::new(1))?;
         let place = BadPlace { node, entry, what };
         assert!(rt; found == Some(Err(place)), "{node} {entry} {what:?}");
     }

@@ -1,7 +1,7 @@
 ghost use Rattle.std.specs.Prelude.{◌≡◌, ℕ, ◌+◌, ◌≤◌, ◌++◌, length, map, sum_by, IfOk, OnOk};
 ghost use Rattle.std.specs.List.{AllByRecursion};
 ghost use Rattle.mtree_node.specs.declared.node.InnerEntry.{out-InnerEntry};
-ghost use Rattle.mtree_node.specs.Tree.{IsLeveled};
+ghost use Rattle.mtree_node.specs.Tree.{IsLeveled, IsLevel};
 ghost use Rattle.mtree_node.specs.Preorder.{size, leaf_row, inner_rows, shapes_below, shapes_from, preorder};
 
 use crate::levels::height;
@@ -119,7 +119,7 @@ fn push_node(alloc: Global, node: &Node, levels: u32, shapes: &mut Shapes) -> Re
 ///
 /// `AllocError` where the memory is too small for the list.
 pub fn flatten(alloc: Global, root: &Node) -> Result<Shapes, AllocError>
-    requires leveled { (levels : ℕ) × (levels ≤ 6) × IsLeveled levels root.now }
+    requires leveled { IsLevel root.now }
     ensures is { IfOk result (λ shapes. (levels : ℕ) → IsLeveled levels root.now → shapes ≡ preorder levels root.now) }
     ensures count { IfOk result (λ shapes. (levels : ℕ) → IsLeveled levels root.now → length shapes ≡ size levels root.now) }
 {

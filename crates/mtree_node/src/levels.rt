@@ -1,5 +1,5 @@
-ghost use Rattle.std.specs.Prelude.{◌≡◌, ℕ, ◌≤◌};
-ghost use Rattle.mtree_node.specs.Tree.{IsLeveled};
+ghost use Rattle.std.specs.Prelude.{◌≡◌, ℕ};
+ghost use Rattle.mtree_node.specs.Tree.{IsLeveled, IsLevel};
 
 use crate::node::Node;
 
@@ -8,7 +8,7 @@ use crate::node::Node;
 /// The leaves are all at one depth of at most 6 levels, each node has at most 30 entries, and each inner
 /// node has at least one.
 pub fn height(root: &Node) -> u32
-    requires leveled { (levels : ℕ) × (levels ≤ 6) × IsLeveled levels root.now }
+    requires leveled { IsLevel root.now }
     ensures is { IsLeveled result root.now }
     ensures only { (levels : ℕ) → IsLeveled levels root.now → result ≡ levels }
 {

@@ -1,7 +1,7 @@
 ghost use Rattle.std.specs.Prelude.{◌≡◌, ℕ, ◌+◌, ◌≤◌, length, sum_by};
 ghost use Rattle.std.specs.List.{AllByRecursion};
 ghost use Rattle.mtree_node.specs.declared.node.InnerEntry.{out-InnerEntry};
-ghost use Rattle.mtree_node.specs.Tree.{IsLeveled};
+ghost use Rattle.mtree_node.specs.Tree.{IsLeveled, IsLevel};
 ghost use Rattle.mtree_node.specs.Preorder.{size, retagged_entry, retagged_below, retagged_from, retagged};
 
 use crate::levels::height;
@@ -59,7 +59,7 @@ fn retag_node(node: &mut Node, levels: u32, tags: &[u32], at: usize) -> usize
 /// The leaves are all at one depth of at most 6 levels, each node has at most 30 entries, and each inner
 /// node has at least one.
 pub fn retag(root: &mut Node, tags: &[u32])
-    requires leveled { (levels : ℕ) × (levels ≤ 6) × IsLeveled levels root.old }
+    requires leveled { IsLevel root.old }
     requires tags { (levels : ℕ) → IsLeveled levels root.old → length tags.now ≡ size levels root.old }
     ensures is { (levels : ℕ) → IsLeveled levels root.old → root.new ≡ retagged tags.now levels root.old }
 {

@@ -35,7 +35,7 @@ returns-in_default-clause-one g c = λ _.
     let object = λ (e : InnerEntry). (out-InnerEntry e).object in
     let radius = λ (e : InnerEntry). (out-InnerEntry e).radius in
     let far = λ (xs : List InnerEntry). farthest g.M.Metric.dist object radius c.args.object.now xs in
-    let top : c.greatest.result ≡ most = c.greatest.ensures ∙ ap (λ (u : List ℕ). g.M.Metric.most (length u)) c.as_slice.ensures.value in (
+    let top : c.greatest.result ≡ most = c.greatest.ensures.value ∙ ap (λ (u : List ℕ). g.M.Metric.most (length u)) c.as_slice.ensures.value in (
       subst (λ (xs : List InnerEntry). settled_inner g.M.Metric.dist most c.args.tag c.args.right_tag xs ≡ Stays (node.Inner c.args.tag xs)) c.in_ok-append.ensures none.0,
       c.gather.ensures.moved ∙ ap (λ (xs : List InnerEntry). all_under g.M.Metric.dist object inner_with_parent c.args.object.now xs) all,
       c.gather.ensures.radius ∙ (ap (λ (xs : List InnerEntry). min (far xs) c.greatest.result) all ∙ ap (λ (n : ℕ). min (far (es ++ more)) n) top),

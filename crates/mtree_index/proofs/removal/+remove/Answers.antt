@@ -12,7 +12,7 @@ use Rattle.mtree_index.specs.Removal.{entry_without, first_changed, refilled, re
 use Rattle.mtree_index.specs.Joinable.{given, IsJoinableAt}
 use Rattle.mtree_index.proofs.Found.{found_among, one_within, joinable_at}
 use Rattle.mtree_index.proofs.Lost.{Telling}
-use Rattle.mtree_index.proofs.Grown.{small_greatest}
+use Rattle.vec_record.proofs.Greatest.{greatest_small}
 use Rattle.mtree_index.proofs.Opened.{has_level}
 use Rattle.mtree_index.proofs.Opening.{removed_inner, map_none, map_map, given_map}
 use Rattle.mtree_index.proofs.Parted.{Lawful}
@@ -27,7 +27,7 @@ lawful g v width iv =
     record {
       triangle = λ a b c x y z. law.triangle (length v) a b c width x y z;
       bound = λ a b x y. law.bound (length v) a b width x y;
-      small = let top = (law.defined (length v) v v width iv iv).1 in omega (arith, top, small_greatest g.M.Metric.KIND (length v) width.small);
+      small = let top = (law.defined (length v) v v width iv iv).1 in omega (arith, top, greatest_small g.M.Metric.KIND (length v) width);
     }
 
 telling : (g : Over) (v : List ℕ) → IsWidth (length v) → Telling g.M.Metric.dist (length v)

@@ -46,7 +46,7 @@ returns-clause-left g c =
     let matrix : c.in_ok-matrix.matrix.items ≡ distances dist os = c.in_ok-matrix.ensures.matrix ∙ ap (λ xs. distances dist (map object xs)) c.deref.ensures.value in
     let reaches : c.deref-4.result.now ≡ map g.E.Entry.radius es = c.deref-4.ensures.value ∙ (c.in_ok-reaches.ensures ∙ ap (map g.E.Entry.radius) c.deref-2.ensures.value) in
     let is = parting_is dist (g.M.Metric.most c.args.width) object g.E.Entry.radius g.E.Entry.with_parent es p c.len-count.result c.deref-3.result.now c.deref-4.result.now c.greatest.result
-    c.choose-parting.ensures.is (omega (arith, c.len-count.ensures, c.args.entries.ok)) (c.deref-3.ensures.value ∙ matrix) reaches c.greatest.ensures in
+    c.choose-parting.ensures.is (omega (arith, c.len-count.ensures, c.args.entries.ok)) (c.deref-3.ensures.value ∙ matrix) reaches c.greatest.ensures.value in
     let at : c.in_ok-left_object.left_object ≡ get_or os p.left [] = c.in_ok-left_object.ensures ∙ ap (λ xs. get_or (map object xs) p.left []) c.deref-5.ensures.value in
     let there = row_there dist os c.deref-7.result.now c.row_at-left_row.result.now c.in_ok-left_object.left_object c.len-count.result p.left c.row_at-left_row.ensures.value (c.deref-7.ensures.value ∙ matrix) count inside at in
     left_is dist (g.M.Metric.most c.args.width) object g.E.Entry.radius g.E.Entry.with_parent es p c.in_ok-left_object.left_object c.row_at-left_row.result.now c.in_ok-left.left is at there c.in_ok-left.ensures.left
@@ -63,7 +63,7 @@ returns-clause-right g c =
     let matrix : c.in_ok-matrix.matrix.items ≡ distances dist os = c.in_ok-matrix.ensures.matrix ∙ ap (λ xs. distances dist (map object xs)) c.deref.ensures.value in
     let reaches : c.deref-4.result.now ≡ map g.E.Entry.radius es = c.deref-4.ensures.value ∙ (c.in_ok-reaches.ensures ∙ ap (map g.E.Entry.radius) c.deref-2.ensures.value) in
     let is = parting_is dist (g.M.Metric.most c.args.width) object g.E.Entry.radius g.E.Entry.with_parent es p c.len-count.result c.deref-3.result.now c.deref-4.result.now c.greatest.result
-    c.choose-parting.ensures.is (omega (arith, c.len-count.ensures, c.args.entries.ok)) (c.deref-3.ensures.value ∙ matrix) reaches c.greatest.ensures in
+    c.choose-parting.ensures.is (omega (arith, c.len-count.ensures, c.args.entries.ok)) (c.deref-3.ensures.value ∙ matrix) reaches c.greatest.ensures.value in
     let at : c.in_ok-right_object.right_object ≡ get_or os p.right [] = c.in_ok-right_object.ensures ∙ ap (λ xs. get_or (map object xs) p.right []) c.deref-6.ensures.value in
     let there = row_there dist os c.deref-8.result.now c.row_at-right_row.result.now c.in_ok-right_object.right_object c.len-count.result p.right c.row_at-right_row.ensures.value (c.deref-8.ensures.value ∙ matrix) count inside at in
     right_is dist (g.M.Metric.most c.args.width) object g.E.Entry.radius g.E.Entry.with_parent es p c.in_ok-right_object.right_object c.row_at-right_row.result.now c.in_ok-left.right is at there c.in_ok-left.ensures.right

@@ -5,7 +5,7 @@ use Rattle.mtree_index.proofs.tests.grow.Given as goal
 
 abbrev pub invariant-loop-number : goal.invariant-loop-number
 invariant-loop-number g l = record {
-  width : l.tree.width ≡ 2;
+  width : l.tree.width ≡ l.vectors.width;
   fresh : (q : ℕ) → l.number ≤ q → map.get (contents l.tree) q ≡ None;
   few : map.len (contents l.tree) < l.number;
 }

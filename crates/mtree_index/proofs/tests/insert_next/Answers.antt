@@ -15,7 +15,7 @@ one_more m k v = rw (len-insert nat_cmp_total m k v) (elim (contains_key m k) as
 
 pub returns-clause-fresh : goal.returns-clause-fresh
 returns-clause-fresh g c =
-    on_ok_weaker c.insert.result (λ d. λ q l. rw d.contents (other_key (contents c.args.tree.now) c.args.number q c.args.vector.now (λ e. absurd (omega (arith, l, e))) (c.requires.fresh q (omega (arith, l))))) c.insert.ensures.grown
+    on_ok_weaker c.insert.result (λ d. λ q l. rw d.contents (other_key (contents c.args.tree.now) c.args.number q c.args.vector.now (λ e. absurd (omega (arith, l, e))) (c.requires.fresh q (omega (arith, l))))) c.insert.ensures.inserted
 
 pub returns-clause-few : goal.returns-clause-few
-returns-clause-few g c = on_ok_weaker c.insert.result (λ d. omega (arith, ap len d.contents, one_more (contents c.args.tree.now) c.args.number c.args.vector.now, c.requires.few)) c.insert.ensures.grown
+returns-clause-few g c = on_ok_weaker c.insert.result (λ d. omega (arith, ap len d.contents, one_more (contents c.args.tree.now) c.args.number c.args.vector.now, c.requires.few)) c.insert.ensures.inserted

@@ -1,4 +1,4 @@
 use Rattle.mtree_index.proofs.tests.removals_leave_the_trees_that_the_rules_give.Given as goal
 
-abbrev pub ghosts-leave_the_trees : goal.ghosts-leave_the_trees
-ghosts-leave_the_trees g a = record { name = a.blank.name; parts = a.blank.parts }
+abbrev pub ghosts-run_goes : goal.ghosts-run_goes
+ghosts-run_goes g a = record { name = a.blank.name; parts = a.blank.parts }

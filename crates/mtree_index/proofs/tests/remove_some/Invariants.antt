@@ -1,5 +1,5 @@
 use Rattle.std.proofs.Common.{◌≡◌}
 use Rattle.mtree_index.proofs.tests.remove_some.Given as goal
 
-abbrev pub invariant-loop-k : goal.invariant-loop-k
-invariant-loop-k g l = l.tree.width ≡ 2
+abbrev pub invariant-loop-number : goal.invariant-loop-number
+invariant-loop-number g l = l.tree.width ≡ l.vectors.width

@@ -7,7 +7,7 @@ use Rattle.mtree_node.specs.Tree.{IsTree}
 use Rattle.mtree_index.specs.Found.{numbers_within, found}
 use Rattle.mtree_index.specs.Tree.{IsRoot, leaves_of}
 use Rattle.mtree_index.proofs.Exact.{shaped, exact}
-use Rattle.mtree_index.proofs.Grown.{small_greatest}
+use Rattle.vec_record.proofs.Greatest.{greatest_small}
 use Rattle.mtree_index.proofs.Parted.{Lawful}
 use Rattle.mtree_index.proofs.tree.find_numbers.Goals as goal
 
@@ -31,7 +31,7 @@ returns-in-Some-clause-found g c =
     let laws : Lawful dist w most = record {
       triangle = λ a b x y z t. law.triangle w a b x width y z t;
       bound = λ a b y z. law.bound w a b width y z;
-      small = let top = (law.defined w q q width qv qv).1 in omega (arith, top, small_greatest g.M.Metric.KIND w width.small);
+      small = let top = (law.defined w q q width qv qv).1 in omega (arith, top, greatest_small g.M.Metric.KIND w width);
     } in
     let there : option_copied c.args.root ≡ Some c.in-Some.root.now = ap option_copied c.in-Some.is in
     let tree : IsTree dist w most c.args.height c.in-Some.root.now = subst (IsRoot dist w most c.args.height) there c.requires.root in

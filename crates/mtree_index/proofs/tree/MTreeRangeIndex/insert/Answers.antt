@@ -3,7 +3,8 @@ use Rattle.std.specs.FinMap as map
 use Rattle.vec_record.specs.Vectors.{IsVector, IsWidth}
 use Rattle.mtree_index.specs.Plain.{PlainTree}
 use Rattle.mtree_index.specs.Tree.{contents}
-use Rattle.mtree_index.proofs.Grown.{small_greatest, held_vectors, call_keeps}
+use Rattle.mtree_index.proofs.Inserted.{held_vectors, call_keeps}
+use Rattle.vec_record.proofs.Greatest.{greatest_small}
 use Rattle.mtree_index.proofs.Parted.{Lawful}
 use Rattle.mtree_index.proofs.tree.MTreeRangeIndex.insert.Given.{Over}
 use Rattle.mtree_index.proofs.tree.MTreeRangeIndex.insert.Goals as goal
@@ -15,7 +16,7 @@ lawful g w v width iv =
     record {
       triangle = λ a b c x y z. law.triangle w a b c width x y z;
       bound = λ a b x y. law.bound w a b width x y;
-      small = let top = (law.defined w v v width iv iv).1 in omega (arith, top, small_greatest g.M.Metric.KIND w width.small);
+      small = let top = (law.defined w v v width iv iv).1 in omega (arith, top, greatest_small g.M.Metric.KIND w width);
     }
 
 pub returns-in_err-root-clause-vectors : goal.returns-in_err-root-clause-vectors
@@ -40,8 +41,8 @@ invariant_of-self-2 g c =
     (call_keeps g.M.Metric.dist g.M.Metric.most t c.args.self.now c.self.view_is c.self.invariant c.args.number c.args.vector.now c.requires.width c.as_slice.ensures.bytes
     (lawful g c.self.inside.width c.args.vector.now c.self.invariant.width) c.requires.absent c.requires.room c.take-root.result c.take-root.ensures.value c.in_ok-root.height c.in_ok-root.root c.in_ok-root.ensures.is).0
 
-pub returns-clause-grown : goal.returns-clause-grown
-returns-clause-grown g c =
+pub returns-clause-inserted : goal.returns-clause-inserted
+returns-clause-inserted g c =
     let t : PlainTree = record { width = c.self.inside.width; height = c.self.inside.height; root = c.self.inside.root } in
     (call_keeps g.M.Metric.dist g.M.Metric.most t c.args.self.now c.self.view_is c.self.invariant c.args.number c.args.vector.now c.requires.width c.as_slice.ensures.bytes
     (lawful g c.self.inside.width c.args.vector.now c.self.invariant.width) c.requires.absent c.requires.room c.take-root.result c.take-root.ensures.value c.in_ok-root.height c.in_ok-root.root c.in_ok-root.ensures.is).1

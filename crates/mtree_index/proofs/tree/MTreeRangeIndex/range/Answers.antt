@@ -8,7 +8,8 @@ use Rattle.mtree_node.specs.declared.node.Node.{Node}
 use Rattle.mtree_index.specs.Found.{numbers_within}
 use Rattle.mtree_index.specs.Plain.{PlainTree}
 use Rattle.mtree_index.specs.Tree.{contents, leaves_of}
-use Rattle.mtree_index.proofs.Grown.{small_greatest, held_vectors, root_distinct}
+use Rattle.mtree_index.proofs.Inserted.{held_vectors, root_distinct}
+use Rattle.vec_record.proofs.Greatest.{greatest_small}
 use Rattle.mtree_index.proofs.Near.{sorted_near}
 use Rattle.mtree_index.proofs.Parted.{Lawful}
 use Rattle.mtree_index.proofs.tree.MTreeRangeIndex.range.Given.{Over}
@@ -21,7 +22,7 @@ lawful g w v width iv =
     record {
       triangle = λ a b c x y z. law.triangle w a b c width x y z;
       bound = λ a b x y. law.bound w a b width x y;
-      small = let top = (law.defined w v v width iv iv).1 in omega (arith, top, small_greatest g.M.Metric.KIND w width.small);
+      small = let top = (law.defined w v v width iv iv).1 in omega (arith, top, greatest_small g.M.Metric.KIND w width);
     }
 
 pub returns-in_err-find_numbers-clause-vectors : goal.returns-in_err-find_numbers-clause-vectors

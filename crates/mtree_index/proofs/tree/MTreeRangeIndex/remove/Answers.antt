@@ -5,12 +5,13 @@ use Rattle.std.specs.FinMap as map
 use Rattle.vec_record.specs.Vectors.{IsVector, IsWidth}
 use Rattle.mtree_node.specs.declared.node.Node.{Node}
 use Rattle.mtree_index.specs.Plain.{PlainTree}
-use Rattle.mtree_index.specs.Shrinking.{IsShrunk, shrunk_from}
+use Rattle.mtree_index.specs.Shrinking.{IsRemoved, shrunk_from}
 use Rattle.mtree_index.specs.Tree.{contents, root_cost, query_cost}
-use Rattle.mtree_index.proofs.Grown.{small_greatest, held_vectors}
+use Rattle.mtree_index.proofs.Inserted.{held_vectors}
+use Rattle.vec_record.proofs.Greatest.{greatest_small}
 use Rattle.mtree_index.proofs.Lost.{Telling}
 use Rattle.mtree_index.proofs.Parted.{Lawful}
-use Rattle.mtree_index.proofs.Shrunk.{whole, call_absent, call_done}
+use Rattle.mtree_index.proofs.Removed.{whole, call_absent, call_done}
 use Rattle.mtree_index.proofs.tree.MTreeRangeIndex.remove.Given.{Over}
 use Rattle.mtree_index.proofs.tree.MTreeRangeIndex.remove.Goals as goal
 
@@ -21,7 +22,7 @@ lawful g w v width iv =
     record {
       triangle = λ a b c x y z. law.triangle w a b c width x y z;
       bound = λ a b x y. law.bound w a b width x y;
-      small = let top = (law.defined w v v width iv iv).1 in omega (arith, top, small_greatest g.M.Metric.KIND w width.small);
+      small = let top = (law.defined w v v width iv iv).1 in omega (arith, top, greatest_small g.M.Metric.KIND w width);
     }
 
 telling : (g : Over) (w : ℕ) → IsWidth w → Telling g.M.Metric.dist w
@@ -124,8 +125,8 @@ returns-clause-present g c =
     let d = call_done dist most t c.args.self.now c.self.view_is c.self.invariant c.args.number v c.requires.width bytes laws tells root c.take-root.ensures.value found h r c.in_ok-found.ensures.is (λ none. (stays none).1) in
     subst (λ (x : PlainTree). IsTrue found ↔ (map.get (contents x) c.args.number ≡ Some v)) c.self.view_is d.present
 
-pub returns-clause-shrunk : goal.returns-clause-shrunk
-returns-clause-shrunk g c =
+pub returns-clause-removed : goal.returns-clause-removed
+returns-clause-removed g c =
     let dist = g.M.Metric.dist in
     let most = g.M.Metric.most in
     let t : PlainTree = whole c.self.inside.width c.self.inside.height c.self.inside.root in
@@ -139,7 +140,7 @@ returns-clause-shrunk g c =
     let r = c.in_ok-found.root in
     let stays = λ (none : shrunk_from dist (most (length v)) c.args.number v (length v) t.height root ≡ None). let is : ◌≡◌ {A = Result (Bool × Option Node × ℕ) AllocError} (Ok (false, root, t.height)) (Ok (found, r, h)) = sym (c.shrink.ensures.absent none) ∙ c.in_ok-found.was in same_parts found root r t.height h is in
     let d = call_done dist most t c.args.self.now c.self.view_is c.self.invariant c.args.number v c.requires.width bytes laws tells root c.take-root.ensures.value found h r c.in_ok-found.ensures.is (λ none. (stays none).1) in
-    λ y. subst (λ (x : PlainTree). IsShrunk dist most x (whole t.width h r) c.args.number v) c.self.view_is (d.shrunk (let is : ◌≡◌ {A = Result Bool AllocError} (Ok found) (Ok true) = y in cc))
+    λ y. subst (λ (x : PlainTree). IsRemoved dist most x (whole t.width h r) c.args.number v) c.self.view_is (d.shrunk (let is : ◌≡◌ {A = Result Bool AllocError} (Ok found) (Ok true) = y in cc))
 
 pub returns-clause-absent : goal.returns-clause-absent
 returns-clause-absent g c =

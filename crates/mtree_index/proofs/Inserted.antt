@@ -7,9 +7,6 @@ use Rattle.std.proofs.lemmas.Bool.Decides.{eqb_tells}
 use Rattle.std.specs.FinMap.{from_entries, insert, get, len, get-from_entries, len-insert, contains_key}
 use Rattle.vec_record.specs.Vectors.{IsVector, IsWidth, AreBytes}
 use Rattle.vec_record.specs.Held.{Rows}
-use Rattle.vec_record.specs.Distance.{greatest_of}
-use Rattle.vec_record.specs.declared.kind.MetricKind.{MetricKind}
-use Rattle.vec_record.specs.declared.kind.MetricKind.TheVariants.{L1, Max, Hamming}
 use Rattle.mtree_node.specs.declared.node.LeafEntry.{LeafEntry}
 use Rattle.mtree_node.specs.declared.node.InnerEntry.{out-InnerEntry}
 use Rattle.mtree_node.specs.declared.node.Node.{Node}
@@ -18,18 +15,13 @@ use Rattle.mtree_node.specs.Tree.{leaves, record_of, AreDistinct, IsTree}
 use Rattle.mtree_node.proofs.Opened.{out_inner, out_leaf}
 use Rattle.mtree_index.specs.Plain.{PlainTree}
 use Rattle.mtree_index.specs.Insertion.{Outcome, Stays, Splits, new_entry, inserted}
-use Rattle.mtree_index.specs.Tree.{leaves_of, contents, IsRoot, IsLawful, rooted, grown_from, after_insertion, IsGrown}
+use Rattle.mtree_index.specs.Tree.{leaves_of, contents, IsRoot, IsLawful, rooted, grown_from, after_insertion, IsInserted}
 use Rattle.mtree_index.proofs.Distinct.{at, distinct_then, contents_then, len_is}
 use Rattle.mtree_index.proofs.Height.{low_tree}
 use Rattle.mtree_index.proofs.Kept.{IsKept, kept, vectors_below, leaves_leaf, leaves_inner}
 use Rattle.mtree_index.proofs.Opened.{has_level}
 use Rattle.mtree_index.proofs.Parted.{Lawful}
 use Rattle.mtree_index.proofs.Totals.{total, total-cons, total-append}
-
-pub small_greatest : (kind : MetricKind) (width : ℕ) → width ≤ 512 → greatest_of kind width < 2 ^ 32
-small_greatest L1 width l = omega (arith, l)
-small_greatest Max width l = omega (arith, l)
-small_greatest Hamming width l = omega (arith, l)
 
 module _ (dist : List ℕ → List ℕ → ℕ) (w greatest : ℕ) where
   -- what a root is, and what map its leaves make
@@ -116,7 +108,7 @@ one_more new old number v distinct is room =
 
 -- the tree after an insertion, whose type keeps it as before
 pub insert_keeps : (dist : List ℕ → List ℕ → ℕ) (most : ℕ → ℕ) (t : PlainTree) → IsLawful dist most t → Lawful dist t.width (most t.width) → (number : ℕ) (v : List ℕ) → IsVector t.width v → get (contents t) number ≡ None → len (contents t) < 200000
-    → (after : PlainTree) → after ≡ after_insertion dist most number v t → IsLawful dist most after × IsGrown dist most t after number v
+    → (after : PlainTree) → after ≡ after_insertion dist most number v t → IsLawful dist most after × IsInserted dist most t after number v
 insert_keeps dist most t lawful laws number v iv absent room after is =
     let new = after_insertion dist most number v t in
     let width : new.width ≡ t.width = width_stays dist (most t.width) number v t.width t.height t.root in
@@ -137,11 +129,11 @@ tree_of w h n = record { width = w; height = h; root = Some n }
 pub call_keeps : (dist : List ℕ → List ℕ → ℕ) (most : ℕ → ℕ) (t now : PlainTree) → t ≡ now → IsLawful dist most t → (number : ℕ) (v : List ℕ) → length v ≡ now.width → AreBytes v
     → (IsVector t.width v → Lawful dist t.width (most t.width)) → get (contents now) number ≡ None → len (contents now) < 200000 → (root : Option Node) → root ≡ t.root
     → (h : ℕ) (n : Node) → tree_of (length v) h n ≡ grown_from dist (most (length v)) number v (length v) t.height root
-    → IsLawful dist most (tree_of t.width h n) × IsGrown dist most now (tree_of t.width h n) number v
+    → IsLawful dist most (tree_of t.width h n) × IsInserted dist most now (tree_of t.width h n) number v
 call_keeps dist most t now same lawful number v width bytes laws absent room root taken h n made =
     let wide : length v ≡ t.width = width ∙ sym (ap (λ (x : PlainTree). x.width) same) in
     let iv : IsVector t.width v = record { len = wide; bytes = bytes } in
     let after : tree_of (length v) h n ≡ grown_from dist (most (length v)) number v (length v) t.height t.root = made ∙ ap (grown_from dist (most (length v)) number v (length v) t.height) taken in
     let is = subst (λ (w : ℕ). tree_of w h n ≡ grown_from dist (most w) number v w t.height t.root) wide after in
     let keeps = insert_keeps dist most t lawful (laws iv) number v iv (subst (λ (x : PlainTree). get (contents x) number ≡ None) (sym same) absent) (subst (λ (x : PlainTree). len (contents x) < 200000) (sym same) room) (tree_of t.width h n) is in
-    (keeps.0, subst (λ (x : PlainTree). IsGrown dist most x (tree_of t.width h n) number v) same keeps.1)
+    (keeps.0, subst (λ (x : PlainTree). IsInserted dist most x (tree_of t.width h n) number v) same keeps.1)

@@ -20,8 +20,9 @@ use Rattle.mtree_index.specs.Plain.{PlainTree}
 use Rattle.mtree_index.specs.Tree.{leaves_of, contents, IsRoot, IsLawful}
 use Rattle.mtree_index.specs.Removal.{removed}
 use Rattle.mtree_index.specs.Joinable.{given}
-use Rattle.mtree_index.specs.Shrinking.{as_root, as_root_in, lowered, lowered_in, lowered_from, shrunk_from, after_removal, IsShrunk}
-use Rattle.mtree_index.proofs.Distinct.{under, one, at, here, other, ties, none_total, total_none, some_total, none_or_some, same_by_all}
+use Rattle.mtree_index.specs.Shrinking.{as_root, as_root_in, lowered, lowered_in, lowered_from, shrunk_from, after_removal, IsRemoved}
+use Rattle.mtree_node.proofs.Distinct.{ties}
+use Rattle.mtree_index.proofs.Distinct.{under, one, at, here, other, none_total, total_none, some_total, none_or_some, same_by_all}
 use Rattle.mtree_index.proofs.Joins.{IsLoose, IsLooseIn, leaf_total, inner_leaves}
 use Rattle.mtree_index.proofs.Kept.{IsEntry, leaves_leaf, leaves_inner}
 use Rattle.mtree_index.proofs.Lost.{Telling, IsLost, same, lost}
@@ -215,7 +216,7 @@ module _ (dist : List ℕ → List ℕ → ℕ) (most : ℕ → ℕ) (t : PlainT
   pub none_absent : after_removal dist most number v t ≡ None → get (contents t) number ≡ Some v → ⊥
   none_absent none there = let absent : Means None = subst Means none means in absent (sym held_at ∙ there)
 
-  pub some_held : (after : PlainTree) → Some after ≡ after_removal dist most number v t → (get (contents t) number ≡ Some v) × IsLawful dist most after × IsShrunk dist most t after number v
+  pub some_held : (after : PlainTree) → Some after ≡ after_removal dist most number v t → (get (contents t) number ≡ Some v) × IsLawful dist most after × IsRemoved dist most t after number v
   some_held after is =
       let here : Means (Some after) = subst Means (sym is) means in
       let width : after.width ≡ t.width = shrunk_width dist (most t.width) number v t.width t.height t.root after is in (
@@ -235,7 +236,7 @@ module _ (dist : List ℕ → List ℕ → ℕ) (most : ℕ → ℕ) (t : PlainT
   pub record IsDone (found : Bool) (h : ℕ) (root : Option Node) : Type 0 where
     pub lawful_then : IsLawful dist most (tree_of h root)
     pub present : IsTrue found ↔ (get (contents t) number ≡ Some v)
-    pub shrunk : found ≡ true → IsShrunk dist most t (tree_of h root) number v
+    pub shrunk : found ≡ true → IsRemoved dist most t (tree_of h root) number v
 
   pub done : (found : Bool) (h : ℕ) (root : Option Node) → given found (tree_of h root) ≡ after_removal dist most number v t → (after_removal dist most number v t ≡ None → (h ≡ t.height) × (root ≡ t.root)) → IsDone found h root
   done true h root is stays =
