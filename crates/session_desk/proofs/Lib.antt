@@ -12,3 +12,4 @@ pub mod Talking
 pub mod Turns
 pub mod Serving
 pub mod LifeLaws
+pub mod Verdicts

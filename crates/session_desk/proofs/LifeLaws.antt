@@ -1,50 +1,55 @@
 -- Lives keep batches: an induction over the runs.
 use Rattle.std.proofs.Common.{◌≡◌, ◌⊎◌, inl, inr, ℕ, ◌+◌, ◌-◌, ◌≤◌, ◌<◌, Bool, true, false, cond, List, [], ◌∷◌, length, refl, sym, ap, subst, ◌∙◌, arith}
-use Rattle.std.specs.Prelude.{Option, Some, None, Result, Ok, Err, nat_le, codes}
+use Rattle.std.specs.Prelude.{Option, Some, None, Result, Ok, Err, nat_le}
 use Rattle.std.specs.List.{list_any}
 use Rattle.std.proofs.lemmas.Bool.Decides.{nat_tests}
 use Rattle.vec_record.specs.Held.{Rows}
 use Rattle.vec_record.specs.declared.change.Change.{Change}
-use Rattle.plain_dbscan.specs.Texts.{report_text}
 use Rattle.page_gate.specs.declared.fault.OpenFault as gate
 use Rattle.page_gate.specs.declared.fault.OpenFault.TheVariants as gate_fault
 use Rattle.page_layout.specs.Heads.{Values}
-use Rattle.store_image.specs.Stores.{IsSound, records_on, batches_on, refusal_on}
+use Rattle.store_image.specs.Stores.{IsSound, records_on, refusal_on}
 use Rattle.warehouse_core.specs.declared.refusal.Refusal as batch
 use Rattle.warehouse_core.specs.declared.refusal.Refusal.TheVariants as batch_refusal
-use Rattle.warehouse_core.specs.Batches.{marks_on, outcome}
-use Rattle.session_desk.specs.Session.{Answer, Request, Batch, Cut, Line, answer, answers, batch_answer, tells, refuses, acked, in_list, rows_behind, batches_behind, says, body_of, requests_of}
+use Rattle.warehouse_core.specs.Batches.{outcome}
+use Rattle.session_desk.specs.Session.{Answer, Request, Batch, Cut, Ask, SessionState, answer, answers, behind, batch_answer, line_answer, refuses, acked, in_list, body_of, requests_of}
+use Rattle.session_desk.specs.declared.requests.Line.{Line}
+use Rattle.session_desk.specs.declared.requests.Line.TheVariants as line
 use Rattle.session_desk.specs.Input.{is_long}
-use Rattle.session_desk.specs.Courses.{session, course_by, values_on}
+use Rattle.session_desk.specs.Courses.{session, course_by, values_on, state_on}
 use Rattle.site_disk.specs.State.{SiteState}
-use Rattle.session_desk.specs.Lives.{Run, content_of, Finds, Starts, MayLeave, IsLife, FoundFirst, Grows, Leaves, LivesKeepBatches, RunsStartSound}
+use Rattle.session_desk.specs.Lives.{Run, content_of, Finds, Starts, MayLeave, IsLife, FoundFirst, GoesThrough, Grows, Leaves, LivesKeepBatches, RunsStartSound}
 
 -- an answer that accepts a batch says something
 abbrev HasText : Answer → Type 0
 HasText a = (a.accepted ≡ None) ⊎ (0 < length a.text)
 
-batch-has-text : (v : Values) (rows : Rows) (batches : ℕ) (due : Result (List Change) batch.Refusal) → HasText (batch_answer v rows batches due)
-batch-has-text v rows batches (Ok changes) = inr (omega arith)
-batch-has-text v rows batches (Err (batch_refusal.Malformed place)) = inl refl
-batch-has-text v rows batches (Err (batch_refusal.WrongLength place)) = inl refl
-batch-has-text v rows batches (Err (batch_refusal.Repeated place)) = inl refl
-batch-has-text v rows batches (Err (batch_refusal.Unknown place)) = inl refl
-batch-has-text v rows batches (Err (batch_refusal.Full place)) = inl refl
-batch-has-text v rows batches (Err batch_refusal.TooManyRecords) = inl refl
-batch-has-text v rows batches (Err batch_refusal.BatchesUsedUp) = inl refl
-batch-has-text v rows batches (Err batch_refusal.SiteFault) = inl refl
-batch-has-text v rows batches (Err batch_refusal.Memory) = inl refl
+batch-has-text : (v : Values) (s : SessionState) (due : Result (List Change) batch.Refusal) → HasText (batch_answer v s due)
+batch-has-text v s (Ok changes) = inr (omega arith)
+batch-has-text v s (Err (batch_refusal.Malformed place)) = inl refl
+batch-has-text v s (Err (batch_refusal.WrongLength place)) = inl refl
+batch-has-text v s (Err (batch_refusal.Repeated place)) = inl refl
+batch-has-text v s (Err (batch_refusal.Unknown place)) = inl refl
+batch-has-text v s (Err (batch_refusal.Full place)) = inl refl
+batch-has-text v s (Err batch_refusal.TooManyRecords) = inl refl
+batch-has-text v s (Err batch_refusal.BatchesUsedUp) = inl refl
+batch-has-text v s (Err batch_refusal.SiteFault) = inl refl
+batch-has-text v s (Err batch_refusal.Memory) = inl refl
 
 either : (b : Bool) (x y : Answer) → HasText x → HasText y → HasText (cond b x y)
 either true x y hx hy = hx
 either false x y hx hy = hy
 
-pub has-text : (v : Values) (rows : Rows) (batches : ℕ) (r : Request) → HasText (answer v rows batches r)
-has-text v rows batches (Batch body) = either (list_any is_long body) (refuses 18 None) (batch_answer v rows batches (outcome v batches rows (body_of body)))
-    (inl refl) (batch-has-text v rows batches (outcome v batches rows (body_of body)))
-has-text v rows batches Cut = inl refl
-has-text v rows batches (Line line) = either (is_long line) (refuses 18 None) (cond (says (codes "report") line) (tells (report_text (marks_on v rows))) (refuses 21 None)) (inl refl)
-    (either (says (codes "report") line) (tells (report_text (marks_on v rows))) (refuses 21 None) (inl refl) (inl refl))
+line-has-text : (v : Values) (s : SessionState) (line : Line) → HasText (line_answer v s line)
+line-has-text v s line.Report = inl refl
+line-has-text v s line.Unknown = inl refl
+line-has-text v s line.Long = inl refl
+
+pub has-text : (v : Values) (s : SessionState) (r : Request) → HasText (answer v s r)
+has-text v s (Batch body) = either (list_any is_long body) (refuses 18 None) (batch_answer v s (outcome v s.batches s.rows (body_of body)))
+    (inl refl) (batch-has-text v s (outcome v s.batches s.rows (body_of body)))
+has-text v s Cut = inl refl
+has-text v s (Ask line) = line-has-text v s line
 
 -- before the first byte no receipt has ended
 none-first : (a : Answer) (more : List Answer) → HasText a → acked 0 more ≡ 0 → acked 0 (a ∷ more) ≡ 0
@@ -62,15 +67,14 @@ none-first a more (inl none) rest =
     zero-of true n e = e
     zero-of false n e = refl
 
-pub none-given : (v : Values) (rows : Rows) (batches : ℕ) (rs : List Request) → acked 0 (answers v rows batches rs) ≡ 0
-none-given v rows batches [] = refl
-none-given v rows batches (r ∷ more) =
-    let a = answer v rows batches r in
-    none-first a (answers v (rows_behind v rows a.accepted) (batches_behind batches a.accepted) more) (has-text v rows batches r)
-    (none-given v (rows_behind v rows a.accepted) (batches_behind batches a.accepted) more)
+pub none-given : (v : Values) (s : SessionState) (rs : List Request) → acked 0 (answers v s rs) ≡ 0
+none-given v s [] = refl
+none-given v s (r ∷ more) =
+    let a = answer v s r in
+    none-first a (answers v (behind v s a.accepted) more) (has-text v s r) (none-given v (behind v s a.accepted) more)
 
 none-by : (fault : Option gate.OpenFault) (c input : List ℕ) → acked 0 (course_by fault c input).answers ≡ 0
-none-by None c input = none-given (values_on c) (records_on c) (batches_on c) (requests_of input)
+none-by None c input = none-given (values_on c) (state_on c) (requests_of input)
 none-by (Some gate_fault.Blank) c input = refl
 none-by (Some gate_fault.Foreign) c input = refl
 none-by (Some (gate_fault.Damaged page offset)) c input = refl
@@ -83,29 +87,44 @@ acked-none c input = none-by (refusal_on c) c input
 
 module _ {S : Type 0} (state : S → SiteState) where
   -- what each content is that a run may find or leave: sound, with records that grew through the runs before
-  record Grown (past : List (Run S)) (Found : List ℕ → Type 0) (image : List ℕ) : Type 0 where
+  record LastsFrom (past : List (Run S)) (Found : List ℕ → Type 0) (image : List ℕ) : Type 0 where
     sound : IsSound image
     first : List ℕ
     found : Found first
     grows : Grows state past (records_on first) (records_on image)
 
-  step : (r : Run S) (past : List (Run S)) (Found : List ℕ → Type 0) (image : List ℕ) → Starts state r (Grown past Found) → MayLeave state r image → Grown (r ∷ past) Found image
+  step : (r : Run S) (past : List (Run S)) (Found : List ℕ → Type 0) (image : List ℕ) → Starts state r (LastsFrom past Found) → MayLeave state r image → LastsFrom (r ∷ past) Found image
   step r past Found image starts (inl quiet) =
       let was = starts.each image quiet.1 in
       let few : acked r.said (session (content_of state r) r.input).answers ≤ 0 =
       let none : acked r.said (session (content_of state r) r.input).answers ≡ 0 = ap (λ (k : ℕ). acked k (session (content_of state r) r.input).answers) quiet.0 ∙ acked-none (content_of state r) r.input in
       omega (arith, none) in
-      record { sound = was.sound; first = was.first; found = was.found; grows = (records_on image, was.grows, record { m = 0; some = omega arith; holds = few; rows_are = refl }) }
+      let still : (0 < 0) ⊎ (0 < r.said) → image ≡ content_of state r = λ moved. absurd (omega (arith, moved, quiet.0)) in
+      let through : GoesThrough state r (records_on image) (records_on image) = record { before = image; found = quiet.1; rows_before = refl; m = 0; own = still; some = omega arith; holds = few; rows_are = refl } in
+      record { sound = was.sound; first = was.first; found = was.found; grows = (records_on image, was.grows, through) }
   step r past Found image starts (inr crash) =
       let was = starts.each (content_of state r) starts.found in
       record {
         sound = crash.store.sound;
         first = was.first;
         found = was.found;
-        grows = (records_on (content_of state r), was.grows, record { m = crash.m; some = crash.store.some; holds = crash.holds; rows_are = crash.store.records });
+        grows = (
+          records_on (content_of state r),
+          was.grows,
+          record {
+            before = content_of state r;
+            found = starts.found;
+            rows_before = refl;
+            m = crash.m;
+            own = λ _. refl;
+            some = crash.store.some;
+            holds = crash.holds;
+            rows_are = crash.store.records;
+          },
+        );
       }
 
-  grown : (runs : List (Run S)) (image : List ℕ) → IsLife state runs → Leaves state runs image → Grown runs (FoundFirst state runs) image
+  grown : (runs : List (Run S)) (image : List ℕ) → IsLife state runs → Leaves state runs image → LastsFrom runs (FoundFirst state runs) image
   grown [] image life left = absurd left
   grown (r ∷ []) image life left =
       step r [] (Finds state r) image (record { found = life.found; each = λ c finds. record { sound = life.each c finds; first = c; found = finds; grows = refl } }) left

@@ -10,14 +10,16 @@ use Rattle.std.proofs.lemmas.Bool.Decides.{nat_tests}
 use Rattle.std.proofs.lemmas.Slice.Eq.{bytes_eq-Decides}
 use Rattle.std.proofs.Math.Seq.{take-nil}
 use Rattle.session_desk.specs.Input.{is_long}
-use Rattle.session_desk.specs.Session.{Request, Batch, Line, bare, says, lines_of, requests, body_of}
+use Rattle.session_desk.specs.Session.{Request, Batch, Ask, line_of, bare, says, lines_of, requests, body_of}
 use Rattle.session_desk.specs.Lines.{Reading, IsHeld, IsOneLine, IsGiven, IsWhole, IsLongLine, IsUnfinished, IsEnd, Nexts, ends_in_return, raw_line}
 use Rattle.session_desk.specs.Asking.{is_past, asks_behind, whole_behind, rest_of, AreWhole, IsNext, IsBroken, Asks}
-use Rattle.session_desk.specs.Passing.{Passes, IsBrokenOff, Faults, PassesEnd, PassesLine, PassesAny, PassesWord, PassesKept, StandsFor, word_of}
+use Rattle.session_desk.specs.Passing.{Passes, IsBrokenOff, Faults, PassesEnd, PassesAny, PassesWord, PassesKept, HasLines, word_of}
 use Rattle.session_desk.specs.declared.reading.ReadFault.{ReadFault}
 use Rattle.session_desk.specs.declared.requests.Body.{Body}
 use Rattle.session_desk.specs.declared.requests.Word.{Word}
 use Rattle.session_desk.specs.declared.requests.Word.TheVariants as word
+use Rattle.session_desk.specs.declared.requests.Line.{Line}
+use Rattle.session_desk.specs.declared.requests.Line.TheVariants.{Report, Unknown, Long}
 use Rattle.session_desk.specs.declared.lines.SessionLine.{SessionLine}
 use Rattle.session_desk.specs.declared.lines.SessionLine.TheVariants as line
 use Rattle.session_desk.specs.declared.reading.ReadFault.TheVariants as fault
@@ -209,17 +211,17 @@ long_says word raw long short = differ (bare raw) word _ refl (omega (arith, len
 
 step_empty : (raw : List ℕ) → says [] raw ≡ true → (ends : Bool) (more : List (List ℕ)) → requests ends None (raw ∷ more) ≡ [] ++ requests ends None more
 step_empty raw is ends more =
-    ap (λ t. cond t (requests ends None more) (cond (says (codes "batch") raw) (requests ends (Some []) more) (Line raw ∷ requests ends None more))) is
+    ap (λ t. cond t (requests ends None more) (cond (says (codes "batch") raw) (requests ends (Some []) more) (Ask (line_of raw) ∷ requests ends None more))) is
 
 step_batch : (raw : List ℕ) → says [] raw ≡ false → says (codes "batch") raw ≡ true → (ends : Bool) (more : List (List ℕ)) → requests ends None (raw ∷ more) ≡ [] ++ requests ends (Some []) more
 step_batch raw some is ends more =
-    ap (λ t. cond t (requests ends None more) (cond (says (codes "batch") raw) (requests ends (Some []) more) (Line raw ∷ requests ends None more))) some
-    ∙ ap (λ t. cond t (requests ends (Some []) more) (Line raw ∷ requests ends None more)) is
+    ap (λ t. cond t (requests ends None more) (cond (says (codes "batch") raw) (requests ends (Some []) more) (Ask (line_of raw) ∷ requests ends None more))) some
+    ∙ ap (λ t. cond t (requests ends (Some []) more) (Ask (line_of raw) ∷ requests ends None more)) is
 
-step_line : (raw : List ℕ) → says [] raw ≡ false → says (codes "batch") raw ≡ false → (ends : Bool) (more : List (List ℕ)) → requests ends None (raw ∷ more) ≡ (Line raw ∷ []) ++ requests ends None more
+step_line : (raw : List ℕ) → says [] raw ≡ false → says (codes "batch") raw ≡ false → (ends : Bool) (more : List (List ℕ)) → requests ends None (raw ∷ more) ≡ (Ask (line_of raw) ∷ []) ++ requests ends None more
 step_line raw some isnt ends more =
-    ap (λ t. cond t (requests ends None more) (cond (says (codes "batch") raw) (requests ends (Some []) more) (Line raw ∷ requests ends None more))) some
-    ∙ ap (λ t. cond t (requests ends (Some []) more) (Line raw ∷ requests ends None more)) isnt
+    ap (λ t. cond t (requests ends None more) (cond (says (codes "batch") raw) (requests ends (Some []) more) (Ask (line_of raw) ∷ requests ends None more))) some
+    ∙ ap (λ t. cond t (requests ends (Some []) more) (Ask (line_of raw) ∷ requests ends None more)) isnt
 
 step_end : (lines : List (List ℕ)) (raw : List ℕ) → says (codes "end") raw ≡ true → (ends : Bool) (more : List (List ℕ)) → requests ends (Some lines) (raw ∷ more) ≡ (Batch lines ∷ []) ++ requests ends None more
 step_end lines raw is ends more = ap (λ t. cond t (Batch lines ∷ requests ends None more) (requests ends (Some (lines ++ raw ∷ [])) more)) is
@@ -234,7 +236,7 @@ not_long raw short = grind (arith, nat_tests)
 
 word_by : (e b r : Bool) (line : List ℕ) (cr : Bool) (old : Reading) (left : List ℕ) (new : Reading) (left' : List ℕ)
     → bytes_eq line [] ≡ e → bytes_eq line (codes "batch") ≡ b → bytes_eq line (codes "report") ≡ r → IsWhole line cr old left new left' → (old.ended ≡ true → new.ended ≡ true)
-    → PassesAny (cond e None (cond b (Some word.Batch) (cond r (Some word.Report) (Some word.Other)))) old left new left'
+    → PassesAny (cond e None (cond b (Some word.Batch) (Some (word.Line (cond r Report Unknown))))) old left new left'
 word_by true b r line cr old left new left' empty batch report whole ends =
     let raw = raw_line line cr in
     let none : says [] raw ≡ true = says_raw [] line cr whole.marked ∙ empty in
@@ -244,31 +246,29 @@ word_by false true r line cr old left new left' empty batch report whole ends =
     let some : says [] raw ≡ false = says_raw [] line cr whole.marked ∙ empty in
     let is : says (codes "batch") raw ≡ true = says_raw (codes "batch") line cr whole.marked ∙ batch in
     pass_line None (Some []) [] raw old left new left' (step_batch raw some is) whole.given ends
-word_by false false true line cr old left new left' empty batch report whole ends =
+word_by false false r line cr old left new left' empty batch report whole ends =
     let raw = raw_line line cr in
     let some : says [] raw ≡ false = says_raw [] line cr whole.marked ∙ empty in
     let isnt : says (codes "batch") raw ≡ false = says_raw (codes "batch") line cr whole.marked ∙ batch in
-    record { line = raw; size = not_long raw whole.short; word = says_raw (codes "report") line cr whole.marked ∙ report; passes = pass_line None None (Line raw ∷ []) raw old left new left' (step_line raw some isnt) whole.given ends }
-word_by false false false line cr old left new left' empty batch report whole ends =
-    let raw = raw_line line cr in
-    let some : says [] raw ≡ false = says_raw [] line cr whole.marked ∙ empty in
-    let isnt : says (codes "batch") raw ≡ false = says_raw (codes "batch") line cr whole.marked ∙ batch in
-    record { line = raw; size = not_long raw whole.short; word = says_raw (codes "report") line cr whole.marked ∙ report; passes = pass_line None None (Line raw ∷ []) raw old left new left' (step_line raw some isnt) whole.given ends }
+    let asked : line_of raw ≡ cond r Report Unknown =
+    ap (λ (t : Bool). cond t Long (cond (says (codes "report") raw) Report Unknown)) (not_long raw whole.short)
+    ∙ ap (λ (t : Bool). cond t Report Unknown) (says_raw (codes "report") line cr whole.marked ∙ report) in
+    let P : Line → Type 0 = λ l. Passes None (Ask l ∷ []) None old left new left' in
+    subst P asked (pass_line None None (Ask (line_of raw) ∷ []) raw old left new left' (step_line raw some isnt) whole.given ends)
 
 pub pass_word : (line : List ℕ) (cr : Bool) (old : Reading) (left : List ℕ) (new : Reading) (left' : List ℕ) → IsWhole line cr old left new left' → (old.ended ≡ true → new.ended ≡ true) → PassesAny (word_of line) old left new left'
 pass_word line cr old left new left' whole ends =
     word_by (bytes_eq line []) (bytes_eq line (codes "batch")) (bytes_eq line (codes "report")) line cr old left new left' refl refl refl whole ends
 
-pub pass_long : (old : Reading) (left : List ℕ) (new : Reading) (left' : List ℕ) → IsLongLine old left new left' → (old.ended ≡ true → new.ended ≡ true) → PassesLine true false old left new left'
+pub pass_long : (old : Reading) (left : List ℕ) (new : Reading) (left' : List ℕ) → IsLongLine old left new left' → (old.ended ≡ true → new.ended ≡ true) → Passes None (Ask Long ∷ []) None old left new left'
 pass_long old left new left' long ends =
     let raw = long.raw in
-    record {
-      line = raw;
-      size = grind (arith, nat_tests, long.long);
-      word = long_says (codes "report") raw long.long (lit≤ tt);
-      passes = pass_line None None (Line raw ∷ []) raw old left new left'
-          (step_line raw (long_says [] raw long.long (lit≤ tt)) (long_says (codes "batch") raw long.long (lit≤ tt))) long.given ends;
-    }
+    let is : is_long raw ≡ true = grind (arith, nat_tests, long.long) in
+    let asked : line_of raw ≡ Long = ap (λ (t : Bool). cond t Long (cond (says (codes "report") raw) Report Unknown)) is in
+    let P : Line → Type 0 = λ l. Passes None (Ask l ∷ []) None old left new left' in
+    subst P asked
+    (pass_line None None (Ask (line_of raw) ∷ []) raw old left new left'
+    (step_line raw (long_says [] raw long.long (lit≤ tt)) (long_says (codes "batch") raw long.long (lit≤ tt))) long.given ends)
 
 asks_end : (room : ℕ) → is_past room [] ≡ false
 asks_end room = grind (arith, nat_tests)
@@ -318,7 +318,7 @@ pass_body_end lines line cr old left new left' whole ends is =
 
 pub pass_kept : (lines : List (List ℕ)) (b b' : Body) (line : List ℕ) (cr : Bool) (old : Reading) (left : List ℕ) (new : Reading) (left' : List ℕ)
     → IsWhole line cr old left new left' → (old.ended ≡ true → new.ended ≡ true) → bytes_eq line (codes "end") ≡ false
-    → StandsFor b lines → b'.is_long ≡ b.is_long → (b.is_long ≡ false → b'.bytes ≡ b.bytes ++ (raw_line line cr ++ 10 ∷ [])) → PassesKept lines b' old left new left'
+    → HasLines b lines → b'.is_long ≡ b.is_long → (b.is_long ≡ false → b'.bytes ≡ b.bytes ++ (raw_line line cr ++ 10 ∷ [])) → PassesKept lines b' old left new left'
 pass_kept lines b b' line cr old left new left' whole ends isnt stands same kept =
     let raw = raw_line line cr in
     record {
@@ -357,17 +357,12 @@ next_at r found given old left new left' is same next = subst (λ (t : Result Se
 
 -- One read behind lines that were passed.
 
-pub line_more : {long report : Bool} {o : Reading} {l : List ℕ} {m : Reading} {k : List ℕ} {n : Reading} {j : List ℕ} → Passes None [] None o l m k → PassesLine long report m k n j → PassesLine long report o l n j
-line_more first more = record { line = more.line; size = more.size; word = more.word; passes = pass_more first more.passes }
-
 pub end_more : {body behind : Option (List (List ℕ))} {q : List Request} {o : Reading} {l : List ℕ} {m : Reading} {k : List ℕ} {n : Reading} {j : List ℕ} → Passes body [] behind o l m k → PassesEnd behind q m k n j → PassesEnd body q o l n j
 end_more first more = record { passes = pass_more first more.passes; none = more.none; fits = sym first.past ∙ more.fits; ended = more.ended }
 
 pub word_more : (w : Word) {o : Reading} {l : List ℕ} {m : Reading} {k : List ℕ} (n : Reading) (j : List ℕ) → Passes None [] None o l m k → PassesWord w m k n j → PassesWord w o l n j
 word_more word.Batch n j first more = pass_more first more
-word_more word.Report n j first more = line_more first more
-word_more word.LongLine n j first more = line_more first more
-word_more word.Other n j first more = line_more first more
+word_more (word.Line line) n j first more = pass_more first more
 word_more word.End n j first more = end_more first more
 
 -- What a request that was passed is to a caller.

@@ -21,14 +21,14 @@ use Rattle.session_desk.specs.Input.{is_long}
 use Rattle.session_desk.specs.Answers.{refusal_line}
 use Rattle.session_desk.specs.Session.{Request, Batch, Answer, batch_answer, refuses, body_of, rows_behind, batches_behind}
 use Rattle.session_desk.specs.Asking.{IsAsked}
-use Rattle.session_desk.specs.Talks.{IsServing, answer_on, IsBehind, IsNextState, IsAnswered, Answering, IsReplying}
+use Rattle.session_desk.specs.Talks.{IsServing, session_of, answer_on, IsBehind, IsNextState, IsAnswered, Answering, IsReplying}
 use Rattle.session_desk.proofs.Going.{safe_as}
 
 -- the answer to a batch that was read
-pub batch-answer-is : (w : State) (lines : List (List ℕ)) (body : List ℕ) → list_any is_long lines ≡ false → body ≡ body_of lines → answer_on w (Batch lines) ≡ batch_answer w.values w.rows w.batches (due w body)
+pub batch-answer-is : (w : State) (lines : List (List ℕ)) (body : List ℕ) → list_any is_long lines ≡ false → body ≡ body_of lines → answer_on w (Batch lines) ≡ batch_answer w.values (session_of w) (due w body)
 batch-answer-is w lines body short is =
-    ap (λ (b : Bool). cond b (refuses 18 None) (batch_answer w.values w.rows w.batches (due w (body_of lines)))) short
-    ∙ ap (λ (b : List ℕ). batch_answer w.values w.rows w.batches (due w b)) (sym is)
+    ap (λ (b : Bool). cond b (refuses 18 None) (batch_answer w.values (session_of w) (due w (body_of lines)))) short
+    ∙ ap (λ (b : List ℕ). batch_answer w.values (session_of w) (due w b)) (sym is)
 
 -- of what was read, with the lines of the request
 pub asked-lines : (lines : List (List ℕ)) (body : List ℕ) → IsAsked (asked.Batch body) (Batch lines) → (list_any is_long lines ≡ false) × (body ≡ body_of lines)
@@ -45,12 +45,12 @@ same-state w next a n p is same = record {
 }
 
 pub refused-batch : (w next : State) (lines : List (List ℕ)) (body : List ℕ) (refusal : Refusal) (n : ℕ) (p : Option ℕ) (refused : Bool) (old mid new : List ℕ)
-    → IsAsked (asked.Batch body) (Batch lines) → due w body ≡ Err refusal → batch_answer w.values w.rows w.batches (Err refusal) ≡ refuses n p → next ≡ w → mid ≡ old → refused ≡ true
+    → IsAsked (asked.Batch body) (Batch lines) → due w body ≡ Err refusal → batch_answer w.values (session_of w) (Err refusal) ≡ refuses n p → next ≡ w → mid ≡ old → refused ≡ true
     → new ≡ mid ++ refusal_line n p → IsAnswered w (Batch lines) refused next old new
 refused-batch w next lines body refusal n p refused old mid new given fault numbered same kept yes_it_is text =
     let at = asked-lines lines body given in
     let is : answer_on w (Batch lines) ≡ refuses n p =
-    batch-answer-is w lines body at.0 at.1 ∙ ap (batch_answer w.values w.rows w.batches) fault ∙ numbered in
+    batch-answer-is w lines body at.0 at.1 ∙ ap (batch_answer w.values (session_of w)) fault ∙ numbered in
     record {
       text = text ∙ ap (λ (t : List ℕ). t ++ refusal_line n p) kept ∙ ap (λ (x : Answer). old ++ x.text) (sym is);
       refused_is = yes_it_is ∙ ap (λ (x : Answer). x.refused) (sym is);

@@ -23,8 +23,8 @@ use Rattle.session_desk.specs.declared.status.Status.{Status}
 use Rattle.session_desk.specs.declared.status.Status.TheVariants as status
 use Rattle.session_desk.specs.Statuses.{is_fault}
 use Rattle.session_desk.specs.Moments.{IsSaying}
-use Rattle.session_desk.specs.Session.{Answer, Request, answers, text_of, accepted_by, acked, rows_after_all, requests_of, whole_requests}
-use Rattle.session_desk.specs.Courses.{Course, course_text, course_by, begun, session, values_on, accepted}
+use Rattle.session_desk.specs.Session.{Answer, Request, state_with, answers, text_of, accepted_by, acked, rows_after_all, requests_of, whole_requests}
+use Rattle.session_desk.specs.Courses.{Course, course_text, course_by, begun, session, values_on, state_on, accepted}
 use Rattle.session_desk.specs.Headline.{IsStoreAfter, IsMoment, SaysAll, SaysWhole, KeepsAll, IsSettled, IsUntouched}
 use Rattle.session_desk.specs.Talks.{answers_on, talk, IsStoreAt, IsTalk, Concludes, IsKept, IsCutOff, IsEven}
 use Rattle.session_desk.specs.Opened.{is_outside, fault_of, refusal_course, IsLoaded}
@@ -32,17 +32,17 @@ use Rattle.session_desk.proofs.LifeLaws.{acked-none}
 use Rattle.session_desk.proofs.Going.{safe_as, then_safe, then_said}
 
 -- a session over a content that is a store
-begun-by : (fault : Option OpenFault) (c input : List ℕ) → fault ≡ None → course_by fault c input ≡ begun (answers (values_on c) (records_on c) (batches_on c) (requests_of input)) input
+begun-by : (fault : Option OpenFault) (c input : List ℕ) → fault ≡ None → course_by fault c input ≡ begun (answers (values_on c) (state_on c) (requests_of input)) input
 begun-by fault c input is = ap (λ (f : Option OpenFault). course_by f c input) is
 
 values-are : (w : State) (c : List ℕ) → IsStore w.values w.rows w.batches c → values_on c ≡ w.values
 values-are w c store = ap (λ (o : Option Values). unwrap_or o (record { metric = kind.L1; dim = 0; eps = 0; minpts = 0; cap = 0 })) store.params
 
-answers-are : (w : State) (c : List ℕ) (qs : List Request) → IsStore w.values w.rows w.batches c → answers (values_on c) (records_on c) (batches_on c) qs ≡ answers_on w qs
+answers-are : (w : State) (c : List ℕ) (qs : List Request) → IsStore w.values w.rows w.batches c → answers (values_on c) (state_on c) qs ≡ answers_on w qs
 answers-are w c qs store =
-    ap (λ (v : Values). answers v (records_on c) (batches_on c) qs) (values-are w c store)
-    ∙ ap (λ (r : Rows). answers w.values r (batches_on c) qs) store.records
-    ∙ ap (λ (n : ℕ). answers w.values w.rows n qs) store.batches_are
+    ap (λ (v : Values). answers v (state_on c) qs) (values-are w c store)
+    ∙ ap (λ (r : Rows). answers w.values (state_with r (batches_on c)) qs) store.records
+    ∙ ap (λ (n : ℕ). answers w.values (state_with w.rows n) qs) store.batches_are
 
 session-is : (w : State) (c input : List ℕ) → IsStore w.values w.rows w.batches c → session c input ≡ talk w input
 unfolding session
@@ -55,7 +55,7 @@ store-after w c input m image store at =
     let P : List (List Change) → Type 0 = λ l. m ≤ length l in
     record {
       some = subst P batches at.some;
-      sound = inr at.store.opens;
+      sound = record { begins = inr at.store.opens };
       params = at.store.params ∙ sym store.params;
       records =
           at.store.records

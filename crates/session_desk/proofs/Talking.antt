@@ -11,8 +11,8 @@ use Rattle.vec_record.specs.Held.{Rows}
 use Rattle.page_layout.specs.Heads.{Values}
 use Rattle.warehouse_core.specs.Batches.{rows_after}
 use Rattle.warehouse_core.specs.States.{State}
-use Rattle.session_desk.specs.Session.{Request, Answer, answer, answers, text_of, in_list, accepted_by, acked, rows_behind, batches_behind, rows_after_all}
-use Rattle.session_desk.specs.Talks.{answer_on, answers_on, IsNextState, IsStateAfter}
+use Rattle.session_desk.specs.Session.{Request, Answer, state_with, answer, behind, answers, text_of, in_list, accepted_by, acked, rows_behind, batches_behind, rows_after_all}
+use Rattle.session_desk.specs.Talks.{session_of, answer_on, answers_on, IsNextState, IsStateAfter}
 
 pub text-append : (d e : List Answer) → text_of (d ++ e) ≡ text_of d ++ text_of e
 text-append d e = flat_map-append (λ (a : Answer). a.text) d e
@@ -33,24 +33,24 @@ rows-append v rows [] ys = refl
 rows-append v rows (x ∷ xs) ys = rows-append v (rows_after v rows x) xs ys
 
 answers-append : (v : Values) (rows : Rows) (n : ℕ) (qs rs : List Request)
-    → answers v rows n (qs ++ rs) ≡ answers v rows n qs ++ answers v (rows_after_all v rows (accepted_by (answers v rows n qs))) (n + length (accepted_by (answers v rows n qs))) rs
+    → answers v (state_with rows n) (qs ++ rs) ≡ answers v (state_with rows n) qs ++ answers v (state_with (rows_after_all v rows (accepted_by (answers v (state_with rows n) qs))) (n + length (accepted_by (answers v (state_with rows n) qs)))) rs
 answers-append v rows n [] rs =
     let e : n ≡ n + 0 = omega arith in
-    ap (λ (k : ℕ). answers v rows k rs) e
+    ap (λ (k : ℕ). answers v (state_with rows k) rs) e
 answers-append v rows n (q ∷ qs) rs =
-    let a = answer v rows n q in
-    let done = answers v (rows_behind v rows a.accepted) (batches_behind n a.accepted) qs in
+    let a = answer v (state_with rows n) q in
+    let done = answers v (behind v (state_with rows n) a.accepted) qs in
     ap (λ (l : List Answer). a ∷ l) (answers-append v (rows_behind v rows a.accepted) (batches_behind n a.accepted) qs rs)
-    ∙ ap (λ (r : Rows). (a ∷ done) ++ answers v r (batches_behind n a.accepted + length (accepted_by done)) rs) (sym (rows-first v rows a.accepted (accepted_by done)))
-    ∙ ap (λ (k : ℕ). (a ∷ done) ++ answers v (rows_after_all v rows (in_list a.accepted ++ accepted_by done)) k rs) (sym (batches-first n a.accepted (accepted_by done)))
+    ∙ ap (λ (r : Rows). (a ∷ done) ++ answers v (state_with r (batches_behind n a.accepted + length (accepted_by done))) rs) (sym (rows-first v rows a.accepted (accepted_by done)))
+    ∙ ap (λ (k : ℕ). (a ∷ done) ++ answers v (state_with (rows_after_all v rows (in_list a.accepted ++ accepted_by done)) k) rs) (sym (batches-first n a.accepted (accepted_by done)))
 
 -- the answers to more requests are those over the state behind the first
 pub answers-split : (w next : State) (asked rest : List Request) → IsStateAfter w asked next → answers_on w (asked ++ rest) ≡ answers_on w asked ++ answers_on next rest
 answers-split w next asked rest after =
     answers-append w.values w.rows w.batches asked rest
-    ∙ ap (λ (r : Rows). answers_on w asked ++ answers w.values r (w.batches + length (accepted_by (answers_on w asked))) rest) (sym after.rows)
-    ∙ ap (λ (k : ℕ). answers_on w asked ++ answers w.values next.rows k rest) (sym after.batches)
-    ∙ ap (λ (v : Values). answers_on w asked ++ answers v next.rows next.batches rest) (sym after.values)
+    ∙ ap (λ (r : Rows). answers_on w asked ++ answers w.values (state_with r (w.batches + length (accepted_by (answers_on w asked)))) rest) (sym after.rows)
+    ∙ ap (λ (k : ℕ). answers_on w asked ++ answers w.values (state_with next.rows k) rest) (sym after.batches)
+    ∙ ap (λ (v : Values). answers_on w asked ++ answers v (session_of next) rest) (sym after.values)
 
 -- the state before the first request, and behind one more
 pub after-none : (w : State) → IsStateAfter w [] w

@@ -27,7 +27,7 @@ use Rattle.session_desk.specs.declared.reading.ReadFault.TheVariants as read_fau
 use Rattle.session_desk.specs.Asking.{Asks, IsAsked, asks, rest_of, is_past, AreWhole, IsNext, IsBroken}
 use Rattle.session_desk.specs.Session.{Request, Answer, is_over, text_of, in_list, accepted_by, acked, rows_behind, batches_behind, rows_after_all, requests_of, whole_requests}
 use Rattle.session_desk.specs.Courses.{course_text}
-use Rattle.session_desk.specs.Talks.{IsServing, answer_on, answers_on, IsNextState, IsReplying, talk, IsStoreAt, IsTalk, IsRead, IsToldOf, IsStateAfter, IsGoing, Concludes, IsKept, IsCutOff, IsEven}
+use Rattle.session_desk.specs.Talks.{IsServing, session_of, answer_on, answers_on, IsNextState, IsReplying, talk, IsStoreAt, IsTalk, IsRead, IsToldOf, IsStateAfter, IsGoing, Concludes, IsKept, IsCutOff, IsEven}
 use Rattle.session_desk.proofs.LifeLaws.{none-given}
 use Rattle.session_desk.proofs.Going.{safe_as, then_safe, then_said}
 use Rattle.session_desk.proofs.Replies.{rest-store}
@@ -96,7 +96,7 @@ point w next input a asked rest are after s t said c m cut is store holds few =
 
 -- no receipt has ended where nothing of what is to come was said
 none-said : (next : State) (rest : List Request) → acked 0 (answers_on next rest) ≡ 0
-none-said next rest = none-given next.values next.rows next.batches rest
+none-said next rest = none-given next.values (session_of next) rest
 
 -- between two turns
 pub at-rest : (w next : State) (input : List ℕ) (a : SiteState) (asked rest : List Request) → requests_of input ≡ asked ++ rest → IsStateAfter w asked next

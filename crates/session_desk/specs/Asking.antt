@@ -1,8 +1,8 @@
 -- What the bytes ask for that a session hasn't looked at yet, and the next request among them.
-use Rattle.std.specs.Prelude.{◌≡◌, ◌⊎◌, ℕ, ◌+◌, ◌≤◌, nat_lt, not, Bool, true, false, List, [], ◌∷◌, ◌++◌, length, take, Option, Some, None, Result, Ok, Err, codes}
+use Rattle.std.specs.Prelude.{◌≡◌, ◌⊎◌, ℕ, ◌+◌, ◌≤◌, nat_lt, not, Bool, true, false, List, [], ◌∷◌, ◌++◌, length, take, Option, Some, None, Result, Ok, Err}
 use Rattle.std.specs.List.{list_any}
 use Rattle.session_desk.specs.Input.{is_long}
-use Rattle.session_desk.specs.Session.{Request, Batch, Cut, Line, lines_of, says, requests, body_of, whole_requests}
+use Rattle.session_desk.specs.Session.{Request, Batch, Cut, Ask, lines_of, requests, body_of, whole_requests}
 use Rattle.session_desk.specs.Lines.{Reading}
 use Rattle.session_desk.specs.declared.reading.ReadFault.{ReadFault}
 use Rattle.session_desk.specs.declared.reading.ReadFault.TheVariants.{Source, TooMuch, Memory}
@@ -35,11 +35,7 @@ IsAsked (asked.Batch body) q =
     (lines : List (List ℕ)) × (q ≡ Batch lines) × (list_any is_long lines ≡ false) × (body ≡ body_of lines)
 IsAsked asked.LongBatch q = (lines : List (List ℕ)) × (q ≡ Batch lines) × (list_any is_long lines ≡ true)
 IsAsked asked.Cut q = q ≡ Cut
-IsAsked asked.Report q =
-    (line : List ℕ) × (q ≡ Line line) × (is_long line ≡ false) × (says (codes "report") line ≡ true)
-IsAsked asked.LongLine q = (line : List ℕ) × (q ≡ Line line) × (is_long line ≡ true)
-IsAsked asked.Other q =
-    (line : List ℕ) × (q ≡ Line line) × (is_long line ≡ false) × (says (codes "report") line ≡ false)
+IsAsked (asked.Line line) q = q ≡ Ask line
 
 -- Bytes that are whole lines and batches, and ask for these requests, whatever follows.
 pub record AreWhole (bytes : List ℕ) (asked : List Request) : Type 0 where

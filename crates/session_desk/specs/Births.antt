@@ -21,15 +21,20 @@ abbrev pub birth_due : Bool → Due
 birth_due true = due Fine (codes "born\n")
 birth_due false = due Exists (codes "store exists\n")
 
--- the images of a birth over a blank content: those of the start, blank ones, and the new store; over another content those of the start
-abbrev pub IsBirthImage : Values → Bool → SiteState → List ℕ → Type 0
-IsBirthImage v true a image = a.may_leave image ⊎ ((is_blank image ≡ true) ⊎ (opening image ≡ Opens (new_pages v)))
-IsBirthImage v false a image = a.may_leave image
+-- nothing is said, over an image of the start or a blank one
+abbrev pub IsUnbegun : SiteState → List ℕ → List ℕ → Type 0
+IsUnbegun a said image = (said ≡ a.said) × (a.may_leave image ⊎ (is_blank image ≡ true))
 
--- a moment of a birth: a prefix of what is due was said
+-- The images of a birth. Over a blank content: those before it while nothing is said, and the new store.
+-- Over another content: those of the start.
+abbrev pub IsBirthImage : Values → Bool → SiteState → List ℕ → List ℕ → Type 0
+IsBirthImage v true a said image = IsUnbegun a said image ⊎ (opening image ≡ Opens (new_pages v))
+IsBirthImage v false a said image = a.may_leave image
+
+-- a moment of a birth: a prefix of what is due was said, and `born` only over the new store
 pub record IsBirthMoment (v : Values) (a : SiteState) (said image : List ℕ) : Type 0 where
   pub prefix : (n : ℕ) × (said ≡ a.said ++ take n (birth_due (is_blank a.content)).text)
-  pub image_is : IsBirthImage v (is_blank a.content) a image
+  pub image_is : IsBirthImage v (is_blank a.content) a said image
 
 -- after status 0 the only image is the new store; after status 9 it is the content as it was
 abbrev pub IsBorn : Values → Status → SiteState → SiteState → Type 0

@@ -1,6 +1,6 @@
 -- What a run of `serve` comes to: its answers, what is said behind them, and the status, as a function of the content and
 -- the whole input.
-use Rattle.std.specs.Prelude.{ℕ, if◌then◌else◌, List, [], ◌++◌, unwrap_or, Option, Some, None, codes}
+use Rattle.std.specs.Prelude.{◌≡◌, ℕ, false, if◌then◌else◌, List, [], ◌++◌, unwrap_or, Option, Some, None, codes}
 use Rattle.std.specs.Fmt.{decimal}
 use Rattle.std.specs.List.{list_any}
 use Rattle.vec_record.specs.declared.change.Change.{Change}
@@ -11,7 +11,8 @@ use Rattle.page_layout.specs.Heads.{Values}
 use Rattle.store_image.specs.Stores.{refusal_on, records_on, batches_on, params_on}
 use Rattle.session_desk.specs.declared.status.Status as status
 use Rattle.session_desk.specs.declared.status.Status.TheVariants.{Fine, Refused, Blank, Broken, TooLong, Memory}
-use Rattle.session_desk.specs.Session.{Answer, is_over, requests_of, answers, text_of, accepted_by}
+use Rattle.session_desk.specs.Statuses.{is_fault}
+use Rattle.session_desk.specs.Session.{Answer, Request, SessionState, state_with, is_over, requests_of, answers, text_of, accepted_by}
 
 pub record Course : Type 0 where
   pub answers : List Answer
@@ -26,6 +27,14 @@ course_text s = text_of s.answers ++ s.ending
 abbrev pub values_on : List ℕ → Values
 values_on c = unwrap_or (params_on c) (record { metric = L1; dim = 0; eps = 0; minpts = 0; cap = 0 })
 
+-- the state of a session before its first request
+abbrev pub state_on : List ℕ → SessionState
+state_on c = state_with (records_on c) (batches_on c)
+
+-- the answers to requests over an open store
+abbrev pub answers_over : List ℕ → List Request → List Answer
+answers_over c asked = answers (values_on c) (state_on c) asked
+
 -- a session that isn't begun, with the one line that says why
 abbrev pub unbegun : status.Status → List ℕ → Course
 unbegun status line = record { answers = []; ending = line; status = status }
@@ -39,7 +48,7 @@ begun given input = record {
 }
 
 abbrev pub course_by : Option gate.OpenFault → List ℕ → List ℕ → Course
-course_by None c input = begun (answers (values_on c) (records_on c) (batches_on c) (requests_of input)) input
+course_by None c input = begun (answers_over c (requests_of input)) input
 course_by (Some gate_fault.Blank) c input = unbegun Blank (codes "blank store\n")
 course_by (Some gate_fault.Foreign) c input = unbegun Broken (codes "foreign store\n")
 course_by (Some (gate_fault.Damaged page offset)) c input =
@@ -50,6 +59,10 @@ course_by (Some gate_fault.Memory) c input = unbegun Memory []
 -- the session of an input over a content
 unfoldable pub session : List ℕ → List ℕ → Course
 session c input = course_by (refusal_on c) c input
+
+-- no session ends with a fault: want of memory, and faults of the site and of the source, are those of a run alone
+abbrev pub SessionsHaveNoFaults : Type 0
+SessionsHaveNoFaults = (c input : List ℕ) → is_fault (session c input).status ≡ false
 
 -- the batches that a session accepts
 abbrev pub accepted : List ℕ → List ℕ → List (List Change)

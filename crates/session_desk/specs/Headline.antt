@@ -5,8 +5,8 @@ use Rattle.page_gate.specs.Gate.{opening}
 use Rattle.page_gate.specs.Same.{IsOnly}
 use Rattle.store_image.specs.Stores.{IsSound, records_on, batches_on, params_on}
 use Rattle.session_desk.specs.declared.status.Status.{Status}
-use Rattle.session_desk.specs.Session.{acked, answers, text_of, rows_after_all, whole_requests}
-use Rattle.session_desk.specs.Courses.{session, course_text, values_on, accepted}
+use Rattle.session_desk.specs.Session.{acked, text_of, rows_after_all, whole_requests}
+use Rattle.session_desk.specs.Courses.{session, course_text, values_on, answers_over, accepted}
 
 -- an image is a sound store with the same parameters, and the records after the first m batches that the session accepts
 pub record IsStoreAfter (c input : List ℕ) (m : ℕ) (image : List ℕ) : Type 0 where
@@ -40,7 +40,7 @@ pub record SaysAll (input : List ℕ) (result : Status) (a b : SiteState) : Type
 pub record SaysWhole (input left : List ℕ) (a b : SiteState) : Type 0 where
   pub front : List ℕ
   pub gave : input ≡ front ++ left
-  pub text : b.said ≡ a.said ++ text_of (answers (values_on a.content) (records_on a.content) (batches_on a.content) (whole_requests front))
+  pub text : b.said ≡ a.said ++ text_of (answers_over a.content (whole_requests front))
 
 -- End: one image, with every accepted batch
 pub record KeepsAll (input : List ℕ) (a b : SiteState) : Type 0 where

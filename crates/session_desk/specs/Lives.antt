@@ -1,5 +1,5 @@
 -- Runs of `serve`, one after another, over what the run before left, however it was cut off.
-use Rattle.std.specs.Prelude.{◌≡◌, ◌⊎◌, ℕ, ◌≤◌, List, [], ◌∷◌, length, take}
+use Rattle.std.specs.Prelude.{◌≡◌, ◌⊎◌, ℕ, ◌≤◌, ◌<◌, List, [], ◌∷◌, length, take}
 use Rattle.vec_record.specs.Held.{Rows}
 use Rattle.site_disk.specs.State.{SiteState}
 use Rattle.store_image.specs.Stores.{IsSound, records_on}
@@ -46,9 +46,15 @@ FoundFirst state [] c = ⊥
 FoundFirst state (r ∷ []) c = Finds state r c
 FoundFirst state (r ∷ before ∷ more) c = FoundFirst state (before ∷ more) c
 
--- The records go, in each run, through the first m batches that it accepts, with every one whose receipt it had said.
+-- The records go, in each run, from those of a content that the run could find through the first m batches
+-- that it accepts, with every one whose receipt it had said. Where it took a batch or said anything, that
+-- content is the one that it found.
 pub record GoesThrough {S : Type 0} (state : S → SiteState) (r : Run S) (rows next : Rows) : Type 0 where
+  pub before : List ℕ
+  pub found : Finds state r before
+  pub rows_before : rows ≡ records_on before
   pub m : ℕ
+  pub own : (0 < m) ⊎ (0 < r.said) → before ≡ content_of state r
   pub some : m ≤ length (accepted (content_of state r) r.input)
   pub holds : acked r.said (session (content_of state r) r.input).answers ≤ m
   pub rows_are : next ≡ rows_after_all (values_on (content_of state r)) rows (take m (accepted (content_of state r) r.input))

@@ -1,9 +1,8 @@
 -- The opening of a store. The code alone speaks of this.
 use Rattle.std.specs.Prelude.{◌≡◌, ◌≢◌, ℕ, Bool, true, false, List, [], Some, Result, MatchResult}
 use Rattle.site_disk.specs.State.{SiteState, Safe}
-use Rattle.page_gate.specs.Gate.{opening, Opens}
-use Rattle.page_gate.specs.Promises.{Holds, IsAsWas, IsRefusal}
-use Rattle.page_gate.specs.Room.{Room}
+use Rattle.page_gate.specs.Gate.{opening}
+use Rattle.page_gate.specs.Promises.{Holds, IsAsWas}
 use Rattle.page_gate.specs.declared.fault.OpenFault.{OpenFault}
 use Rattle.page_gate.specs.declared.fault.OpenFault.TheVariants.{Blank, Foreign, Damaged, SiteFault, Memory}
 use Rattle.store_image.specs.declared.fault.StoreFault as store
@@ -41,13 +40,6 @@ refusal_course fault = course_by (Some fault) [] []
 -- each image opens as the content of the start does, unless the site failed
 abbrev pub AreOpened : OpenFault → SiteState → SiteState → Type 0
 AreOpened fault a b = fault ≢ SiteFault → (c : List ℕ) → b.may_leave c → opening c ≡ opening a.content
-
--- the pages of the store, behind a closed redo gate in the only image, or why it doesn't open
-pub record Opened (result : Result Room OpenFault) (a b : SiteState) : Type 0 where
-  pub safe : Safe a b (IsAsWas a)
-  pub said : b.said ≡ a.said
-  pub list : MatchResult result (λ pages. opening a.content ≡ Opens pages.list) (λ fault. IsRefusal fault (opening a.content))
-  pub holds : MatchResult result (λ pages. Holds pages.list b) (λ fault. AreOpened fault a b)
 
 -- a warehouse that was loaded from pages
 pub record IsLoaded (pages : List (List ℕ)) (w : State) : Type 0 where

@@ -3,12 +3,14 @@ use Rattle.std.specs.Prelude.{◌≡◌, ◌⊎◌, ℕ, ◌+◌, ◌≤◌, ◌
 use Rattle.std.specs.Str.{bytes_eq}
 use Rattle.std.specs.List.{list_any}
 use Rattle.session_desk.specs.Input.{is_long}
-use Rattle.session_desk.specs.Session.{Request, Batch, Cut, Line, says, body_of}
+use Rattle.session_desk.specs.Session.{Request, Batch, Cut, Ask, body_of}
 use Rattle.session_desk.specs.Lines.{Reading}
 use Rattle.session_desk.specs.Asking.{IsAsked, asks_behind, whole_behind, is_past, rest_of}
 use Rattle.session_desk.specs.declared.reading.ReadFault.{ReadFault}
 use Rattle.session_desk.specs.declared.reading.ReadFault.TheVariants as fault
 use Rattle.session_desk.specs.declared.requests.Asked.{Asked}
+use Rattle.session_desk.specs.declared.requests.Line.{Line}
+use Rattle.session_desk.specs.declared.requests.Line.TheVariants.{Report, Unknown}
 use Rattle.session_desk.specs.declared.requests.Word.{Word}
 use Rattle.session_desk.specs.declared.requests.Word.TheVariants as word
 use Rattle.session_desk.specs.declared.requests.Body.{Body}
@@ -39,20 +41,16 @@ Faults fault.Source body old left left' = IsBrokenOff body old left left'
 Faults fault.TooMuch body old left left' = (asks_behind body old.room (rest_of old left) ≡ []) × (is_past old.room (rest_of old left) ≡ true)
 Faults fault.Memory body old left left' = Unit {0}
 
+-- what a line asks for that isn't long, without its carriage return
+abbrev pub short_line : List ℕ → Line
+short_line line = if bytes_eq line (codes "report") then Report else Unknown
+
 -- the word that a line says, without its carriage return; an empty one says none
 abbrev pub word_of : List ℕ → Option Word
 word_of line =
     if bytes_eq line [] then None
     else if bytes_eq line (codes "batch") then Some word.Batch
-    else if bytes_eq line (codes "report") then Some word.Report
-    else Some word.Other
-
--- a line that is a request of its own was passed
-pub record PassesLine (long report : Bool) (old : Reading) (left : List ℕ) (new : Reading) (left' : List ℕ) : Type 0 where
-  pub line : List ℕ
-  pub size : is_long line ≡ long
-  pub word : says (codes "report") line ≡ report
-  pub passes : Passes None (Line line ∷ []) None old left new left'
+    else Some (word.Line (short_line line))
 
 -- the end of the input was found, which asks for this where a body is open or none is
 pub record PassesEnd (body : Option (List (List ℕ))) (asked : List Request) (old : Reading) (left : List ℕ) (new : Reading) (left' : List ℕ) : Type 0 where
@@ -64,9 +62,7 @@ pub record PassesEnd (body : Option (List (List ℕ))) (asked : List Request) (o
 -- one line outside of a body that isn't empty, or the end, was passed
 abbrev pub PassesWord : Word → Reading → List ℕ → Reading → List ℕ → Type 0
 PassesWord word.Batch old left new left' = Passes None [] (Some []) old left new left'
-PassesWord word.Report old left new left' = PassesLine false true old left new left'
-PassesWord word.LongLine old left new left' = PassesLine true false old left new left'
-PassesWord word.Other old left new left' = PassesLine false false old left new left'
+PassesWord (word.Line line) old left new left' = Passes None (Ask line ∷ []) None old left new left'
 PassesWord word.End old left new left' = PassesEnd None [] old left new left'
 
 abbrev pub PassesAny : Option Word → Reading → List ℕ → Reading → List ℕ → Type 0
@@ -83,20 +79,20 @@ Words (Ok w) old left new left' = PassesWord w old left new left'
 Words (Err e) old left new left' = Faults e None old left left'
 
 -- a body stands for its lines so far: it knows of a long one, or has the bytes of all
-pub record StandsFor (b : Body) (lines : List (List ℕ)) : Type 0 where
+pub record HasLines (b : Body) (lines : List (List ℕ)) : Type 0 where
   pub long : b.is_long ≡ list_any is_long lines
   pub bytes : b.is_long ≡ false → b.bytes ≡ body_of lines
 
 -- a line of the body was passed and kept
 pub record PassesKept (lines : List (List ℕ)) (b : Body) (old : Reading) (left : List ℕ) (new : Reading) (left' : List ℕ) : Type 0 where
   pub line : List ℕ
-  pub stands : StandsFor b (lines ++ line ∷ [])
+  pub stands : HasLines b (lines ++ line ∷ [])
   pub passes : Passes (Some lines) [] (Some (lines ++ line ∷ [])) old left new left'
 
 -- what the answers of the reading say inside of a body: of one line, and of all up to its end
 abbrev pub OneInBody : Result BodyLine ReadFault → List (List ℕ) → Body → Reading → List ℕ → Reading → List ℕ → Type 0
 OneInBody (Ok inside.Kept) lines b old left new left' = PassesKept lines b old left new left'
-OneInBody (Ok inside.End) lines b old left new left' = StandsFor b lines × Passes (Some lines) (Batch lines ∷ []) None old left new left'
+OneInBody (Ok inside.End) lines b old left new left' = HasLines b lines × Passes (Some lines) (Batch lines ∷ []) None old left new left'
 OneInBody (Ok inside.Cut) lines b old left new left' = PassesEnd (Some lines) (Cut ∷ []) old left new left'
 OneInBody (Err e) lines b old left new left' = Faults e (Some lines) old left left'
 
@@ -130,9 +126,7 @@ ShrinksBy (Err e) old new = Unit {0}
 -- less may count behind every line outside of a body
 abbrev pub ShrinksOver : Word → Reading → Reading → Type 0
 ShrinksOver word.Batch old new = new.room < old.room
-ShrinksOver word.Report old new = new.room < old.room
-ShrinksOver word.LongLine old new = new.room < old.room
-ShrinksOver word.Other old new = new.room < old.room
+ShrinksOver (word.Line line) old new = new.room < old.room
 ShrinksOver word.End old new = new.room ≤ old.room
 
 abbrev pub ShrinksOverAny : Option Word → Reading → Reading → Type 0

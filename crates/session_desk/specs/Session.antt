@@ -12,6 +12,8 @@ use Rattle.warehouse_core.specs.Batches.{marks_on, outcome, rows_after, events_o
 use Rattle.warehouse_core.specs.Receipts.{receipt_text}
 use Rattle.session_desk.specs.Answers.{refusal_line, input_limit}
 use Rattle.session_desk.specs.Input.{is_line_feed, is_long}
+use Rattle.session_desk.specs.declared.requests.Line.{Line}
+use Rattle.session_desk.specs.declared.requests.Line.TheVariants.{Report, Unknown, Long}
 
 -- whether an input has more bytes than count
 abbrev pub is_over : List ℕ → Bool
@@ -37,11 +39,19 @@ bare (b ∷ c ∷ more) = b ∷ bare (c ∷ more)
 abbrev pub says : List ℕ → List ℕ → Bool
 says word line = bytes_eq (bare line) word
 
--- what a session is asked: a batch with the lines of its body, a batch without its end, or any other line
+-- what a line outside of a batch asks for
+abbrev pub line_of : List ℕ → Line
+line_of bytes =
+    if is_long bytes then Long
+    else if says (codes "report") bytes then Report
+    else Unknown
+
+-- What a session is asked: a batch with the lines of its body, a batch without its end, or what another
+-- line asks for.
 pub data Request : Type 0 where
   Batch : List (List ℕ) → Request
   Cut : Request
-  Line : List ℕ → Request
+  Ask : Line → Request
 
 -- What lines ask for, where a body is open with its lines so far, or none is. Empty lines outside of a body ask nothing. A body
 -- without its end is a request where the input ends there, and none where more bytes were cut off.
@@ -51,7 +61,7 @@ requests ends (Some body) [] = if ends then Cut ∷ [] else []
 requests ends None (line ∷ more) =
     if says [] line then requests ends None more
     else if says (codes "batch") line then requests ends (Some []) more
-    else Line line ∷ requests ends None more
+    else Ask (line_of line) ∷ requests ends None more
 requests ends (Some body) (line ∷ more) =
     if says (codes "end") line then Batch body ∷ requests ends None more else requests ends (Some (body ++ line ∷ [])) more
 
@@ -71,32 +81,44 @@ tells text = record { text = text; refused = false; accepted = None }
 abbrev pub refuses : ℕ → Option ℕ → Answer
 refuses number place = record { text = refusal_line number place; refused = true; accepted = None }
 
+-- the state of a session: the records, and how many batches there were
+pub record SessionState : Type 0 where
+  pub rows : Rows
+  pub batches : ℕ
+
+abbrev pub state_with : Rows → ℕ → SessionState
+state_with rows batches = record { rows = rows; batches = batches }
+
 -- the receipt or the refusal of a batch; the last two causes are of no body
-abbrev pub batch_answer : Values → Rows → ℕ → Result (List Change) batch.Refusal → Answer
-batch_answer v rows batches (Ok changes) = record {
-  text = receipt_text (batches + 1) changes (events_of v rows changes);
+abbrev pub batch_answer : Values → SessionState → Result (List Change) batch.Refusal → Answer
+batch_answer v s (Ok changes) = record {
+  text = receipt_text (s.batches + 1) changes (events_of v s.rows changes);
   refused = false;
   accepted = Some changes;
 }
-batch_answer v rows batches (Err (batch_refusal.Malformed place)) = refuses 11 (Some place)
-batch_answer v rows batches (Err (batch_refusal.WrongLength place)) = refuses 12 (Some place)
-batch_answer v rows batches (Err (batch_refusal.Repeated place)) = refuses 13 (Some place)
-batch_answer v rows batches (Err (batch_refusal.Unknown place)) = refuses 14 (Some place)
-batch_answer v rows batches (Err (batch_refusal.Full place)) = refuses 15 (Some place)
-batch_answer v rows batches (Err batch_refusal.TooManyRecords) = refuses 16 None
-batch_answer v rows batches (Err batch_refusal.BatchesUsedUp) = refuses 19 None
-batch_answer v rows batches (Err batch_refusal.SiteFault) = refuses 0 None
-batch_answer v rows batches (Err batch_refusal.Memory) = refuses 0 None
+batch_answer v s (Err (batch_refusal.Malformed place)) = refuses 11 (Some place)
+batch_answer v s (Err (batch_refusal.WrongLength place)) = refuses 12 (Some place)
+batch_answer v s (Err (batch_refusal.Repeated place)) = refuses 13 (Some place)
+batch_answer v s (Err (batch_refusal.Unknown place)) = refuses 14 (Some place)
+batch_answer v s (Err (batch_refusal.Full place)) = refuses 15 (Some place)
+batch_answer v s (Err batch_refusal.TooManyRecords) = refuses 16 None
+batch_answer v s (Err batch_refusal.BatchesUsedUp) = refuses 19 None
+batch_answer v s (Err batch_refusal.SiteFault) = refuses 0 None
+batch_answer v s (Err batch_refusal.Memory) = refuses 0 None
 
--- the answer to a request over records, after a number of batches
-abbrev pub answer : Values → Rows → ℕ → Request → Answer
-answer v rows batches (Batch body) =
-    if list_any is_long body then refuses 18 None else batch_answer v rows batches (outcome v batches rows (body_of body))
-answer v rows batches Cut = refuses 17 None
-answer v rows batches (Line line) =
-    if is_long line then refuses 18 None
-    else if says (codes "report") line then tells (report_text (marks_on v rows))
-    else refuses 21 None
+-- the answer to a line outside of a batch
+abbrev pub line_answer : Values → SessionState → Line → Answer
+line_answer v s Report = tells (report_text (marks_on v s.rows))
+line_answer v s Unknown = refuses 21 None
+line_answer v s Long = refuses 18 None
+
+-- the answer to a request in a state
+abbrev pub answer : Values → SessionState → Request → Answer
+answer v s (Batch body) =
+    if list_any is_long body then refuses 18 None
+    else batch_answer v s (outcome v s.batches s.rows (body_of body))
+answer v s Cut = refuses 17 None
+answer v s (Ask line) = line_answer v s line
 
 -- the records and the number of batches behind an answer
 abbrev pub rows_behind : Values → Rows → Option (List Change) → Rows
@@ -107,12 +129,17 @@ abbrev pub batches_behind : ℕ → Option (List Change) → ℕ
 batches_behind batches None = batches
 batches_behind batches (Some changes) = batches + 1
 
+abbrev pub behind : Values → SessionState → Option (List Change) → SessionState
+behind v s accepted = state_with (rows_behind v s.rows accepted) (batches_behind s.batches accepted)
+
+-- one step of a session: the answer to a request, and the state behind it
+abbrev pub step : Values → SessionState → Request → Answer × SessionState
+step v s q = let a = answer v s q in (a, behind v s a.accepted)
+
 -- the answers to requests, in order
-abbrev pub answers : Values → Rows → ℕ → List Request → List Answer
-answers v rows batches [] = []
-answers v rows batches (r ∷ more) =
-    let a = answer v rows batches r in
-    a ∷ answers v (rows_behind v rows a.accepted) (batches_behind batches a.accepted) more
+abbrev pub answers : Values → SessionState → List Request → List Answer
+answers v s [] = []
+answers v s (q ∷ more) = let next = step v s q in next.0 ∷ answers v next.1 more
 
 -- the text of answers, and the batches that they accept
 abbrev pub text_of : List Answer → List ℕ

@@ -11,7 +11,7 @@ use Rattle.session_desk.specs.declared.status.Status.{Status}
 use Rattle.session_desk.specs.declared.status.Status.TheVariants as status
 use Rattle.session_desk.specs.Lines.{Reading, HasSource}
 use Rattle.session_desk.specs.Answers.{input_limit}
-use Rattle.session_desk.specs.Session.{Request, Answer, is_over, answer, answers, text_of, accepted_by, acked, rows_behind, batches_behind, rows_after_all, batch_answer, refuses, requests_of, whole_requests}
+use Rattle.session_desk.specs.Session.{Request, Answer, SessionState, state_with, is_over, answer, answers, text_of, accepted_by, acked, rows_behind, batches_behind, rows_after_all, batch_answer, refuses, requests_of, whole_requests}
 use Rattle.session_desk.specs.Asking.{asks, rest_of, is_past, AreWhole}
 use Rattle.session_desk.specs.Courses.{Course, begun, course_text}
 
@@ -21,12 +21,16 @@ pub record IsServing (w : State) : Type 0 where
   pub whole : w.failed ≡ false
   pub loads : LoadsAs w.pages w.values w.rows w.batches
 
+-- the state of the session that a warehouse stands for
+abbrev pub session_of : State → SessionState
+session_of w = state_with w.rows w.batches
+
 -- the answer to a request over a warehouse, and the answers to requests in order
 abbrev pub answer_on : State → Request → Answer
-answer_on w q = answer w.values w.rows w.batches q
+answer_on w q = answer w.values (session_of w) q
 
 abbrev pub answers_on : State → List Request → List Answer
-answers_on w qs = answers w.values w.rows w.batches qs
+answers_on w qs = answers w.values (session_of w) qs
 
 -- the store behind an answer
 abbrev pub IsBehind : State → Answer → List ℕ → Type 0
@@ -35,7 +39,8 @@ IsBehind w a c = IsStore w.values (rows_behind w.values w.rows a.accepted) (batc
 -- the number and the place of a refusal, or the status of a fault
 abbrev pub IsJudged : Refusal → Result (ℕ × Option ℕ) Status → Type 0
 IsJudged refusal (Ok r) =
-    (is_numbered refusal ≡ true) × ((w : State) → batch_answer w.values w.rows w.batches (Err refusal) ≡ refuses r.0 r.1)
+    (is_numbered refusal ≡ true)
+    × ((w : State) → batch_answer w.values (session_of w) (Err refusal) ≡ refuses r.0 r.1)
 IsJudged refusal (Err s) =
     (is_numbered refusal ≡ false) × (((s ≡ status.SiteFault) × (refusal ≡ Refusal.SiteFault)) ⊎ ((s ≡ status.Memory) × (refusal ≡ Refusal.Memory)))
 

@@ -1,14 +1,14 @@
 //! The answer to one request.
 ghost use Rattle.std.specs.Prelude.{◌≡◌, ◌≤◌, ◌++◌, ◌⊎◌, ℕ, List, Bool, true, false, Ok, Err, None, IsTrue, IfOk, IfErr, OnOk, length};
 ghost use Rattle.site_disk.specs.Causes.{Rose};
-ghost use Rattle.site_disk.specs.State.{Safe};
+ghost use Rattle.site_disk.specs.State.{Safe, Joins};
 ghost use Rattle.page_gate.specs.Promises.{Holds};
 ghost use Rattle.session_desk.specs.Session.{Request, refuses, body_of};
 ghost use Rattle.session_desk.specs.Answers.{refusal_line as line_of_refusal};
 ghost use Rattle.session_desk.specs.Asking.{IsAsked};
 ghost use Rattle.session_desk.specs.Talks.{IsServing, IsJudged, IsAnswered, Answering};
 
-use crate::requests::Asked;
+use crate::requests::{Asked, Line};
 use crate::status::Status;
 use crate::texts::{refusal_line, report_text};
 use site_disk::Site;
@@ -49,7 +49,7 @@ fn refuse(number: u32, place: Option<u32>, out: &mut Bytes) -> Result<bool, Stat
 /// Appends the report.
 fn report<M: Metric>(warehouse: &Warehouse<M>, out: &mut Bytes) -> Result<bool, Status>
     requires { IsServing warehouse.now }
-    ensures report { (q : Request) → IsAsked Asked.Report q → IfOk result (λ refused. IsAnswered warehouse.now q refused warehouse.now out.old out.new) }
+    ensures report { (q : Request) → IsAsked (Asked.Line Line.Report) q → IfOk result (λ refused. IsAnswered warehouse.now q refused warehouse.now out.old out.new) }
     ensures err { IfErr result (λ status. status ≡ Status.Memory) }
 {
     let Ok(marks) = warehouse.marks() else {
@@ -58,6 +58,23 @@ fn report<M: Metric>(warehouse: &Warehouse<M>, out: &mut Bytes) -> Result<bool, 
     match report_text(&marks, out) {
         Ok(()) => Ok(false),
         Err(_) => Err(Status::Memory),
+    }
+}
+
+/// Appends the answer to a line, and tells whether it is a refusal.
+fn answer_line<M: Metric>(
+    warehouse: &Warehouse<M>,
+    line: Line,
+    out: &mut Bytes,
+) -> Result<bool, Status>
+    requires { IsServing warehouse.now }
+    ensures answered { (q : Request) → IsAsked (Asked.Line line) q → IfOk result (λ refused. IsAnswered warehouse.now q refused warehouse.now out.old out.new) }
+    ensures err { IfErr result (λ status. status ≡ Status.Memory) }
+{
+    match line {
+        Line::Report => report(warehouse, out),
+        Line::Unknown => refuse(21, None, out),
+        Line::Long => refuse(18, None, out),
     }
 }
 
@@ -76,6 +93,7 @@ fn answer_batch<M: Metric, T: Site, L: Ledger>(
     ensures ready { IsTrue T.tells → OnOk result (Holds warehouse.new.pages (T.state site.new)) }
     ensures answered { (lines : List (List ℕ)) → IsAsked (Asked.Batch body.now) (Request.Batch lines) → IfOk result (λ refused. IsAnswered warehouse.old (Request.Batch lines) refused warehouse.new out.old out.new) }
     ensures moments { IsTrue T.tells → (lines : List (List ℕ)) → IsAsked (Asked.Batch body.now) (Request.Batch lines) → Answering warehouse.old (Request.Batch lines) result (T.state site.old) (T.state site.new) }
+    ensures joins { IsTrue T.tells → Joins (T.state site.old) (T.state site.new) }
     ensures said { IsTrue T.tells → (T.state site.new).said ≡ (T.state site.old).said }
     ensures status { IfErr result (λ status. (status ≡ Status.SiteFault) ⊎ (status ≡ Status.Memory)) }
     ensures fault { result ≡ Err Status.SiteFault → Rose (T.faults site.old) (T.faults site.new) }
@@ -105,6 +123,7 @@ pub fn answer<M: Metric, T: Site, L: Ledger>(
     ensures ready { IsTrue T.tells → OnOk result (Holds warehouse.new.pages (T.state site.new)) }
     ensures answered { (q : Request) → IsAsked asked q → IfOk result (λ refused. IsAnswered warehouse.old q refused warehouse.new out.old out.new) }
     ensures moments { IsTrue T.tells → (q : Request) → IsAsked asked q → Answering warehouse.old q result (T.state site.old) (T.state site.new) }
+    ensures joins { IsTrue T.tells → Joins (T.state site.old) (T.state site.new) }
     ensures said { IsTrue T.tells → (T.state site.new).said ≡ (T.state site.old).said }
     ensures status { IfErr result (λ status. (status ≡ Status.SiteFault) ⊎ (status ≡ Status.Memory)) }
     ensures fault { result ≡ Err Status.SiteFault → Rose (T.faults site.old) (T.faults site.new) }
@@ -113,9 +132,8 @@ pub fn answer<M: Metric, T: Site, L: Ledger>(
     loads_are_stores();
     match asked {
         Asked::Batch(body) => answer_batch(warehouse, body.as_slice(), site, out, steps),
-        Asked::LongBatch | Asked::LongLine => refuse(18, None, out),
+        Asked::LongBatch => refuse(18, None, out),
         Asked::Cut => refuse(17, None, out),
-        Asked::Report => report(warehouse, out),
-        Asked::Other => refuse(21, None, out),
+        Asked::Line(line) => answer_line(warehouse, line, out),
     }
 }

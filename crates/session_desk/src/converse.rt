@@ -1,7 +1,7 @@
 //! The session over a warehouse that was loaded.
 ghost use Rattle.std.specs.Prelude.{◌≡◌, ◌≤◌, ◌+◌, ◌++◌, ◌⊎◌, ℕ, List, [], false, true, Ok, Err, IsTrue, IfOk, IfErr, OnOk, length, codes, if◌then◌else◌};
 ghost use Rattle.site_disk.specs.Causes.{Rose};
-ghost use Rattle.site_disk.specs.State.{Safe};
+ghost use Rattle.site_disk.specs.State.{Safe, Joins};
 ghost use Rattle.page_gate.specs.Promises.{Holds};
 ghost use Rattle.warehouse_core.specs.Applying.{IsBefore};
 ghost use Rattle.session_desk.specs.Statuses.{is_fault};
@@ -24,36 +24,46 @@ use store_image::laws::loads_are_stores;
 use vec_record::{Bytes, Metric, Steps};
 use warehouse_core::Warehouse;
 
-/// Answers a request and says the answer. It tells whether that is a refusal, or the status that ends the run.
-fn reply<M: Metric, T: Site, L: Ledger>(
+/// The state of a session.
+#[derive(Drop)]
+struct Session<M: Metric> {
     alloc: Global,
-    warehouse: &mut Warehouse<M>,
-    asked: Asked,
-    site: &mut T,
-    steps: &mut Steps<L>,
-) -> Result<bool, Status>
-    requires serving { IsServing warehouse.old }
-    requires body { (body : List ℕ) → asked ≡ Asked.Batch body → length body ≤ 67_108_864 }
-    requires ready { IsTrue T.tells → Holds warehouse.old.pages (T.state site.old) }
-    ensures serving { OnOk result (IsServing warehouse.new) }
-    ensures ready { IsTrue T.tells → OnOk result (Holds warehouse.new.pages (T.state site.new)) }
-    ensures state { (q : Request) → IsAsked asked q → OnOk result (IsNextState warehouse.old (answer_on warehouse.old q) warehouse.new) }
-    ensures refused { (q : Request) → IsAsked asked q → IfOk result (λ refused. refused ≡ (answer_on warehouse.old q).refused) }
-    ensures said { IsTrue T.tells → (q : Request) → IsAsked asked q → OnOk result ((T.state site.new).said ≡ (T.state site.old).said ++ (answer_on warehouse.old q).text) }
-    ensures moments { IsTrue T.tells → (q : Request) → IsAsked asked q → Safe (T.state site.old) (T.state site.new) (IsReplying warehouse.old q (T.state site.old)) }
-    ensures unsaved { IsTrue T.tells → (q : Request) → IsAsked asked q → result ≡ Err Status.Memory → (c : List ℕ) → (T.state site.new).may_leave c → IsBefore warehouse.old c }
-    ensures unsaid { IsTrue T.tells → result ≡ Err Status.Memory → (T.state site.new).said ≡ (T.state site.old).said }
-    ensures begins { IsTrue T.tells → (more : List ℕ) × ((T.state site.new).said ≡ (T.state site.old).said ++ more) }
-    ensures status { IfErr result (λ status. (status ≡ Status.SiteFault) ⊎ (status ≡ Status.Memory)) }
-    ensures fault { result ≡ Err Status.SiteFault → Rose (T.faults site.old) (T.faults site.new) }
-    ensures later { T.faults site.old ≤ T.faults site.new }
-{
-    loads_are_stores();
-    let mut text = Bytes::new(alloc);
-    let refused = answer(warehouse, asked, site, &mut text, steps)?;
-    match site.say(text.as_slice()) {
-        Ok(()) => Ok(refused),
-        Err(_) => Err(Status::SiteFault),
+    warehouse: Warehouse<M>,
+}
+
+impl<M: Metric> Session<M> {
+    /// One step: answers a request and says the answer. It tells whether that is a refusal, or the status that ends
+    /// the run.
+    fn step<T: Site, L: Ledger>(
+        &mut self,
+        asked: Asked,
+        site: &mut T,
+        steps: &mut Steps<L>,
+    ) -> Result<bool, Status>
+        requires serving { IsServing self.old.warehouse }
+        requires body { (body : List ℕ) → asked ≡ Asked.Batch body → length body ≤ 67_108_864 }
+        requires ready { IsTrue T.tells → Holds self.old.warehouse.pages (T.state site.old) }
+        ensures serving { OnOk result (IsServing self.new.warehouse) }
+        ensures ready { IsTrue T.tells → OnOk result (Holds self.new.warehouse.pages (T.state site.new)) }
+        ensures state { (q : Request) → IsAsked asked q → OnOk result (IsNextState self.old.warehouse (answer_on self.old.warehouse q) self.new.warehouse) }
+        ensures refused { (q : Request) → IsAsked asked q → IfOk result (λ refused. refused ≡ (answer_on self.old.warehouse q).refused) }
+        ensures said { IsTrue T.tells → (q : Request) → IsAsked asked q → OnOk result ((T.state site.new).said ≡ (T.state site.old).said ++ (answer_on self.old.warehouse q).text) }
+        ensures moments { IsTrue T.tells → (q : Request) → IsAsked asked q → Safe (T.state site.old) (T.state site.new) (IsReplying self.old.warehouse q (T.state site.old)) }
+        ensures unsaved { IsTrue T.tells → (q : Request) → IsAsked asked q → result ≡ Err Status.Memory → (c : List ℕ) → (T.state site.new).may_leave c → IsBefore self.old.warehouse c }
+        ensures unsaid { IsTrue T.tells → result ≡ Err Status.Memory → (T.state site.new).said ≡ (T.state site.old).said }
+        ensures joins { IsTrue T.tells → Joins (T.state site.old) (T.state site.new) }
+        ensures begins { IsTrue T.tells → (more : List ℕ) × ((T.state site.new).said ≡ (T.state site.old).said ++ more) }
+        ensures status { IfErr result (λ status. (status ≡ Status.SiteFault) ⊎ (status ≡ Status.Memory)) }
+        ensures fault { result ≡ Err Status.SiteFault → Rose (T.faults site.old) (T.faults site.new) }
+        ensures later { T.faults site.old ≤ T.faults site.new }
+    {
+        loads_are_stores();
+        let mut text = Bytes::new(self.alloc);
+        let refused = answer(&mut self.warehouse, asked, site, &mut text, steps)?;
+        match site.say(text.as_slice()) {
+            Ok(()) => Ok(refused),
+            Err(_) => Err(Status::SiteFault),
+        }
     }
 }
 
@@ -92,7 +102,7 @@ fn break_off<T: Site>(site: &mut T, fault: ReadFault) -> Status
 /// Answers the requests of an input, one by one.
 pub fn converse<M: Metric, S: Source, T: Site, L: Ledger>(
     alloc: Global,
-    mut warehouse: Warehouse<M>,
+    warehouse: Warehouse<M>,
     source: &mut S,
     site: &mut T,
     steps: &mut Steps<L>,
@@ -107,6 +117,7 @@ pub fn converse<M: Metric, S: Source, T: Site, L: Ledger>(
     ensures status { (result ≡ Status.Fine) ⊎ (result ≡ Status.Refused) ⊎ (result ≡ Status.TooLong) ⊎ (is_fault result ≡ true) }
     ensures site { result ≡ Status.SiteFault → Rose (T.faults site.old) (T.faults site.new) }
     ensures source { result ≡ Status.SourceFault → Rose (S.faults source.old) (S.faults source.new) }
+    ensures joins { IsTrue T.tells → Joins (T.state site.old) (T.state site.new) }
     ensures begins { IsTrue T.tells → (more : List ℕ) × ((T.state site.new).said ≡ (T.state site.old).said ++ more) }
     ensures taken { IsTrue S.tells → IsTaken (INPUT_LIMIT + 1) (S.left source.old) (S.left source.new) }
     ensures ended { IsTrue S.tells → (result ≡ Status.Fine) ⊎ (result ≡ Status.Refused) → S.left source.new ≡ [] }
@@ -117,10 +128,11 @@ pub fn converse<M: Metric, S: Source, T: Site, L: Ledger>(
     let Ok(mut reader) = LineReader::new(alloc) else {
         return Status::Memory;
     };
+    let mut session = Session { alloc, warehouse };
     let mut refused = false;
     'turns: loop {
         match next_request(alloc, &mut reader, source) {
-            Ok(Some(asked)) => match reply(alloc, &mut warehouse, asked, site, steps) {
+            Ok(Some(asked)) => match session.step(asked, site, steps) {
                 Ok(refuses) => refused = refused || refuses,
                 Err(status) => return status,
             },

@@ -3,7 +3,7 @@ ghost use Rattle.std.specs.FinMap as map;
 ghost use Rattle.std.specs.List.{AllByRecursion};
 ghost use Rattle.vec_record.specs.Limits.{width_of};
 ghost use Rattle.batch_text.specs.After.{after};
-ghost use Rattle.batch_text.specs.Batch.{Fits, said_by};
+ghost use Rattle.batch_text.specs.Batch.{IsChangeOf, said_by};
 ghost use Rattle.batch_text.specs.Records.{records_of};
 ghost use Rattle.session_desk.specs.Input.{has_long_line as is_any_long, unless_refused, unless_faulty, rows_after, rows_of};
 ghost use Rattle.session_desk.specs.declared.input.Refusal.{Refusal as Refusals};
@@ -115,7 +115,7 @@ fn refusal_at(fault: LineFault, place: u32) -> Refusal
 fn records_after(alloc: Global, params: &Params, batch: ReadBatch) -> Result<Records, InputFault>
     requires cap { params.now.cap ≡ 200000 }
     requires few { length batch.changes ≤ 100000 }
-    requires fits { AllByRecursion (Fits (width_of params.now.metric params.now.dim)) batch.changes }
+    requires fits { AllByRecursion (IsChangeOf (width_of params.now.metric params.now.dim)) batch.changes }
     ensures ok { IfOk result (λ records. rows_after batch ≡ Ok records.vectors) }
     ensures refused { (r : Refusals) → result ≡ Err (InputFault.Refused r) → rows_after batch ≡ Err r }
 {

@@ -3,13 +3,23 @@ ghost use Rattle.std.specs.Str.{bytes_eq};
 ghost use Rattle.site_disk.specs.Causes.{Rose};
 ghost use Rattle.session_desk.specs.Lines.{HasSource, IsUnfinished, raw_line};
 ghost use Rattle.session_desk.specs.Asking.{Asks};
-ghost use Rattle.session_desk.specs.Passing.{word_of as word_said, OneWord, Words, StandsFor, OneInBody, Bodies, HasRoom, KeepsRoom, ShrinksBy, ShrinksOver, ShrinksOverAny};
+ghost use Rattle.session_desk.specs.Passing.{word_of as word_said, short_line, OneWord, Words, HasLines, OneInBody, Bodies, HasRoom, KeepsRoom, ShrinksBy, ShrinksOver, ShrinksOverAny};
 
 use crate::lines::{LineReader, SessionLine};
 use crate::reading::ReadFault;
 use site_disk::Source;
 use std::alloc::{AllocError, Global};
 use vec_record::Bytes;
+
+/// What a line outside of a batch asks for.
+#[derive(Clone, Copy, Drop)]
+pub(crate) enum Line {
+    Report,
+    /// A line that says nothing that is known.
+    Unknown,
+    /// A line of over 4,096 bytes.
+    Long,
+}
 
 /// What a session is asked next.
 #[derive(Drop)]
@@ -20,20 +30,15 @@ pub(crate) enum Asked {
     LongBatch,
     /// A batch without its end.
     Cut,
-    Report,
-    /// A line of over 4,096 bytes.
-    LongLine,
     /// Any other line.
-    Other,
+    Line(Line),
 }
 
 /// What a line outside of a body says.
 #[derive(Clone, Copy, Drop)]
 enum Word {
     Batch,
-    Report,
-    LongLine,
-    Other,
+    Line(Line),
     End,
 }
 
@@ -78,9 +83,7 @@ pub(crate) fn next_request<S: Source>(
 {
     match next_word(reader, source)? {
         Word::Batch => Ok(Some(read_body(alloc, reader, source)?)),
-        Word::Report => Ok(Some(Asked::Report)),
-        Word::LongLine => Ok(Some(Asked::LongLine)),
-        Word::Other => Ok(Some(Asked::Other)),
+        Word::Line(line) => Ok(Some(Asked::Line(line))),
         Word::End => Ok(None),
     }
 }
@@ -118,7 +121,7 @@ fn read_word<S: Source>(reader: &mut LineReader, source: &mut S) -> Result<Optio
 {
     match reader.next(source)? {
         SessionLine::Whole { line, .. } => Ok(word_of(line.as_slice())),
-        SessionLine::Long => Ok(Some(Word::LongLine)),
+        SessionLine::Long => Ok(Some(Word::Line(Line::Long))),
         SessionLine::End => Ok(Some(Word::End)),
     }
 }
@@ -131,10 +134,19 @@ fn word_of(line: &[u8]) -> Option<Word>
         None
     } else if line == b"batch".as_slice() {
         Some(Word::Batch)
-    } else if line == b"report".as_slice() {
-        Some(Word::Report)
     } else {
-        Some(Word::Other)
+        Some(Word::Line(line_of(line)))
+    }
+}
+
+/// What a line asks for that isn't long.
+fn line_of(line: &[u8]) -> Line
+    ensures { result ≡ short_line line.now }
+{
+    if line == b"report".as_slice() {
+        Line::Report
+    } else {
+        Line::Unknown
     }
 }
 
@@ -176,7 +188,7 @@ fn read_line<S: Source>(
     source: &mut S,
 ) -> Result<BodyLine, ReadFault>
     requires { reader.old.failed ≡ false }
-    ensures told { IsTrue S.tells → HasSource reader.old (S.left source.old) → (lines : List (List ℕ)) → StandsFor body.old lines → OneInBody result lines body.new reader.old (S.left source.old) reader.new (S.left source.new) }
+    ensures told { IsTrue S.tells → HasSource reader.old (S.left source.old) → (lines : List (List ℕ)) → HasLines body.old lines → OneInBody result lines body.new reader.old (S.left source.old) reader.new (S.left source.new) }
     ensures taken { IsTrue S.tells → HasSource reader.old (S.left source.old) → IsUnfinished reader.old (S.left source.old) (S.left source.new) }
     ensures same_source { IsTrue S.tells → HasSource reader.old (S.left source.old) → HasSource reader.new (S.left source.new) }
     ensures room { (most : ℕ) → HasRoom most body.old reader.old → KeepsRoom result most body.new reader.new }

@@ -1,7 +1,7 @@
 //! The word `serve`.
 ghost use Rattle.std.specs.Prelude.{◌≡◌, ◌≤◌, ◌<◌, ◌+◌, ◌++◌, ◌⊎◌, [], ℕ, List, Ok, None, true, false, IsTrue, IfOk, IfErr, MatchResult};
 ghost use Rattle.site_disk.specs.Causes.{Rose};
-ghost use Rattle.site_disk.specs.State.{Safe};
+ghost use Rattle.site_disk.specs.State.{Safe, Joins};
 ghost use Rattle.page_gate.specs.Promises.{Holds, HasFault};
 ghost use Rattle.page_layout.specs.Heads.{Values};
 ghost use Rattle.store_image.specs.Loading.{load_of, Fails};
@@ -12,14 +12,14 @@ ghost use Rattle.session_desk.specs.Reading.{IsTaken};
 ghost use Rattle.session_desk.specs.Courses.{session};
 ghost use Rattle.session_desk.specs.Headline.{IsMoment, SaysAll, SaysWhole, KeepsAll, IsSettled, IsUntouched};
 ghost use Rattle.session_desk.specs.Talks.{IsServing, IsTalk, Concludes, IsCutOff, IsKept, IsEven};
-ghost use Rattle.session_desk.specs.Opened.{state_of, is_outside, fault_of as fault_said, refusal_course, Opened, IsLoaded, Loads};
+ghost use Rattle.session_desk.specs.Opened.{state_of, is_outside, fault_of as fault_said, refusal_course, IsLoaded, Loads};
 
 use crate::converse::converse;
 use crate::reading::INPUT_LIMIT;
 use crate::saying::say;
 use crate::status::Status;
 use int_metric::{Hamming, L1, Max};
-use page_gate::{OpenFault, Pages, is_blank, open_pages};
+use page_gate::{OpenFault, Pages, open_pages};
 use site_disk::{Site, Source};
 use std::alloc::Global;
 use std::sync::ledger::Ledger;
@@ -34,18 +34,6 @@ pub enum AnyWarehouse {
     L1(Warehouse<L1>),
     Max(Warehouse<Max>),
     Hamming(Warehouse<Hamming>),
-}
-
-/// Opens the pages of the store. The content is made the only image before it is judged, so that a refusal is
-/// said over it alone.
-fn open_store<T: Site>(alloc: Global, site: &mut T) -> Result<Pages, OpenFault>
-    ensures cause { HasFault (T.faults site.old) (T.faults site.new) result }
-    ensures told { IsTrue T.tells → Opened result (T.state site.old) (T.state site.new) }
-{
-    if is_blank(site).is_err() {
-        return Err(OpenFault::SiteFault);
-    }
-    open_pages(alloc, site)
 }
 
 /// The warehouse of pages.
@@ -84,7 +72,7 @@ fn begin<T: Site, L: Ledger>(
     ensures told { IsTrue T.tells → Loads result (T.state site.old) (T.state site.new) }
 {
     loads_are_stores();
-    let pages = open_store(alloc, site)?;
+    let pages = open_pages(alloc, site)?;
     match load(alloc, pages, steps) {
         Ok(warehouse) => Ok(warehouse),
         Err(fault) => Err(fault_of(fault)),
@@ -145,6 +133,7 @@ fn converse_by_metric<S: Source, T: Site, L: Ledger>(
     ensures status { (result ≡ Status.Fine) ⊎ (result ≡ Status.Refused) ⊎ (result ≡ Status.TooLong) ⊎ (is_fault result ≡ true) }
     ensures site { result ≡ Status.SiteFault → Rose (T.faults site.old) (T.faults site.new) }
     ensures source { result ≡ Status.SourceFault → Rose (S.faults source.old) (S.faults source.new) }
+    ensures joins { IsTrue T.tells → Joins (T.state site.old) (T.state site.new) }
     ensures begins { IsTrue T.tells → (more : List ℕ) × ((T.state site.new).said ≡ (T.state site.old).said ++ more) }
     ensures taken { IsTrue S.tells → IsTaken (INPUT_LIMIT + 1) (S.left source.old) (S.left source.new) }
     ensures ended { IsTrue S.tells → (result ≡ Status.Fine) ⊎ (result ≡ Status.Refused) → S.left source.new ≡ [] }
@@ -176,6 +165,7 @@ pub fn serve<S: Source, T: Site, L: Ledger>(
     ensures known { result ≡ Status.Words → ⊥ }
     ensures site { result ≡ Status.SiteFault → Rose (T.faults site.old) (T.faults site.new) }
     ensures source { result ≡ Status.SourceFault → Rose (S.faults source.old) (S.faults source.new) }
+    ensures joins { IsTrue T.tells → Joins (T.state site.old) (T.state site.new) }
     ensures begins { IsTrue T.tells → (more : List ℕ) × ((T.state site.new).said ≡ (T.state site.old).said ++ more) }
     ensures taken { IsTrue S.tells → IsTaken (INPUT_LIMIT + 1) (S.left source.old) (S.left source.new) }
     ensures ended { IsTrue S.tells → (result ≡ Status.Fine) ⊎ (result ≡ Status.Refused) → S.left source.new ≡ [] }

@@ -1,6 +1,6 @@
 ghost use Rattle.std.specs.Prelude.{◌≡◌, ◌≤◌, ◌<◌, ◌+◌, ◌++◌, ◌⊎◌, [], ℕ, List, None, Some, false, true, IsTrue, length, take, map, string_bytes};
 ghost use Rattle.site_disk.specs.Causes.{Rose};
-ghost use Rattle.site_disk.specs.State.{Safe, Each};
+ghost use Rattle.site_disk.specs.State.{Safe, Joins};
 ghost use Rattle.page_gate.specs.Gate.{is_blank};
 ghost use Rattle.page_layout.specs.Heads.{Values};
 ghost use Rattle.store_image.specs.Stores.{IsSound, refusal_on};
@@ -82,7 +82,8 @@ pub fn run<S: Source, T: Site, L: Ledger>(
     ensures usage { IsTrue T.tells → result ≡ Status.Words → (T.state site.new).said ≡ (T.state site.old).said ++ usage_text }
     ensures unread { IsTrue S.tells → command_of (map string_bytes words.now) ≡ None → S.left source.new ≡ S.left source.old }
 
-    // For all words: a fault has its cause, and what is said comes behind what was said.
+    // For all words: moments join through the whole call, a fault has its cause, and what is said comes behind what was said.
+    ensures joins { IsTrue T.tells → Joins (T.state site.old) (T.state site.new) }
     ensures site { result ≡ Status.SiteFault → Rose (T.faults site.old) (T.faults site.new) }
     ensures source { result ≡ Status.SourceFault → Rose (S.faults source.old) (S.faults source.new) }
     ensures begins { IsTrue T.tells → (more : List ℕ) × ((T.state site.new).said ≡ (T.state site.old).said ++ more) }

@@ -20,16 +20,17 @@ const REPORTS: [&str; 3] = [
 
 /// Runs words on an input in pieces, with a take that is to fail, or none at 0.
 fn run_on_site(
-    alloc: Global,
+    rt: &HostRuntime,
     words: &str,
     input: &str,
     cuts: (usize, u32),
     site: &mut MemSite,
 ) -> Result<Status, AllocError> {
+    let alloc = rt.alloc();
     let words = words_of(alloc, words)?;
     let input = bytes_of(alloc, input.as_bytes())?;
     let mut source = MemSource::new(input, cuts.0.max(1), failing(alloc, cuts.1)?);
-    Ok(run_in_memory(alloc, &words, &mut source, site))
+    Ok(run_in_memory(rt, &words, &mut source, site))
 }
 
 fn device(
@@ -42,16 +43,16 @@ fn device(
 }
 
 /// A device with a new store.
-fn born(alloc: Global) -> Result<MemSite, AllocError> {
-    let mut site = device(alloc, b"", 0, None)?;
-    let _ = run_on_site(alloc, "init l1 1 1 2 100", "", (1, 0), &mut site)?;
+fn born(rt: &HostRuntime) -> Result<MemSite, AllocError> {
+    let mut site = device(rt.alloc(), b"", 0, None)?;
+    let _ = run_on_site(rt, "init l1 1 1 2 100", "", (1, 0), &mut site)?;
     Ok(site)
 }
 
 /// How many batches of the session an image holds, by its report; none where it is no such store.
-fn batches_in(alloc: Global, image: &[u8]) -> Result<Option<usize>, AllocError> {
-    let mut site = device(alloc, image, 0, None)?;
-    let status = run_on_site(alloc, "serve", "report\n", (4096, 0), &mut site)?;
+fn batches_in(rt: &HostRuntime, image: &[u8]) -> Result<Option<usize>, AllocError> {
+    let mut site = device(rt.alloc(), image, 0, None)?;
+    let status = run_on_site(rt, "serve", "report\n", (4096, 0), &mut site)?;
     if status != Status::Fine {
         return Ok(None);
     }
@@ -68,18 +69,36 @@ fn lines_in(said: &[u8]) -> usize {
 }
 
 /// Whether each image that a crash may leave now holds as many batches as receipts were said, or one more.
-fn keeps_batches(alloc: Global, site: &MemSite) -> Result<bool, AllocError> {
+fn keeps_batches(rt: &HostRuntime, site: &MemSite) -> Result<bool, AllocError> {
     let said = lines_in(site.said());
     let mut well = true;
     for pick in 0..4u8 {
         let image = site.crash_image(pick)?;
-        let held = batches_in(alloc, image.as_slice())?;
+        let held = batches_in(rt, image.as_slice())?;
         well = well && held.is_some_and(|held| said <= held && held - said <= 1);
     }
     Ok(well)
 }
 
-/// How a session over a device ended.
+/// Whether an image is a new store, or blank where nothing was said.
+fn is_born(rt: &HostRuntime, image: &[u8], said: &[u8]) -> Result<bool, AllocError> {
+    let mut site = device(rt.alloc(), image, 0, None)?;
+    let status = run_on_site(rt, "serve", "report\n", (4096, 0), &mut site)?;
+    let new = status == Status::Fine && site.said() == REPORTS[0].as_bytes();
+    Ok(new || (said.is_empty() && status == Status::Blank))
+}
+
+/// Whether each image that a crash may leave of a birth is the new store, or blank with nothing said.
+fn bears_well(rt: &HostRuntime, site: &MemSite) -> Result<bool, AllocError> {
+    let mut well = true;
+    for pick in 0..4u8 {
+        let image = site.crash_image(pick)?;
+        well = well && is_born(rt, image.as_slice(), site.said())?;
+    }
+    Ok(well)
+}
+
+/// How a run over a device ended.
 #[derive(Clone, Copy, Drop)]
 struct End {
     /// Whether the device broke it off.
@@ -88,45 +107,53 @@ struct End {
     well: bool,
 }
 
-/// Runs the session over a device.
-fn end_on(alloc: Global, mut site: MemSite) -> Result<End, AllocError> {
-    let status = run_on_site(alloc, "serve", SESSION, (4096, 0), &mut site)?;
+/// Runs the session over a new store, or the birth of one, over a device.
+fn end_on(rt: &HostRuntime, is_birth: bool, mut site: MemSite) -> Result<End, AllocError> {
+    let words = if is_birth {
+        "init l1 1 1 2 100"
+    } else {
+        "serve"
+    };
+    let status = run_on_site(rt, words, SESSION, (4096, 0), &mut site)?;
     let cut = site.faults() > 0;
     let due = if cut { Status::SiteFault } else { Status::Fine };
-    let well = status == due && keeps_batches(alloc, &site)?;
-    Ok(End { cut, well })
+    let well = if is_birth {
+        bears_well(rt, &site)?
+    } else {
+        keeps_batches(rt, &site)?
+    };
+    Ok(End {
+        cut,
+        well: well && status == due,
+    })
 }
 
-/// The session makes no more device calls than this.
+/// The file before a session or a birth.
+fn before(rt: &HostRuntime, is_birth: bool) -> Result<Bytes, AllocError> {
+    if is_birth {
+        return Ok(Bytes::new(rt.alloc()));
+    }
+    let store = born(rt)?;
+    bytes_of(rt.alloc(), store.content())
+}
+
+/// The runs make no more device calls than this.
 const CALLS: u32 = 60;
 
-/// The device stops after each call in turn.
+/// Each call of the device fails in turn, each sync of a commit among them, or the device stops before it.
 #[test]
-fn stopped_sessions(rt: HostRuntime) -> Result<(), Fail> {
-    let store = born(rt.alloc())?;
-    let mut cut = true;
-    for stop in 0..=CALLS {
-        let site = device(rt.alloc(), store.content(), 0, Some(stop))?;
-        let end = end_on(rt.alloc(), site)?;
-        assert!(rt; end.well, "stop {stop}");
-        cut = end.cut;
+fn broken_off(rt: HostRuntime) -> Result<(), Fail> {
+    for is_birth in [false, true] {
+        let content = before(&rt, is_birth)?;
+        for call in 0..=CALLS {
+            for (fail, stop) in [(call + 1, None), (0, Some(call))] {
+                let site = device(rt.alloc(), content.as_slice(), fail, stop)?;
+                let end = end_on(&rt, is_birth, site)?;
+                assert!(rt; end.well, "birth {is_birth}, call {call}, fails {fail}");
+                assert!(rt; call < CALLS || !end.cut);
+            }
+        }
     }
-    assert!(rt; !cut);
-    Ok(())
-}
-
-/// Each call of the device fails in turn, each sync of a commit among them.
-#[test]
-fn failing_sessions(rt: HostRuntime) -> Result<(), Fail> {
-    let store = born(rt.alloc())?;
-    let mut cut = true;
-    for call in 1..=CALLS + 1 {
-        let site = device(rt.alloc(), store.content(), call, None)?;
-        let end = end_on(rt.alloc(), site)?;
-        assert!(rt; end.well, "call {call}");
-        cut = end.cut;
-    }
-    assert!(rt; !cut);
     Ok(())
 }
 
@@ -139,12 +166,12 @@ fn failing_sources(rt: HostRuntime) -> Result<(), Fail> {
         (6, 8, FIRST_RECEIPT),
         (40, 2, FIRST_RECEIPT),
     ] {
-        let mut site = born(rt.alloc())?;
+        let mut site = born(&rt)?;
         let mut device = device(rt.alloc(), site.content(), 0, None)?;
-        let status = run_on_site(rt.alloc(), "serve", SESSION, (piece, call), &mut device)?;
+        let status = run_on_site(&rt, "serve", SESSION, (piece, call), &mut device)?;
         assert_eq!(rt; status, Status::SourceFault, "piece {piece}");
         assert_eq!(rt; device.said(), said.as_bytes(), "piece {piece}");
-        let held = batches_in(rt.alloc(), device.content())?;
+        let held = batches_in(&rt, device.content())?;
         assert_eq!(rt; held, Some(lines_in(said.as_bytes())), "piece {piece}");
     }
     Ok(())

@@ -2,7 +2,7 @@
 use super::{Outcome, bytes_of, ended, run_in_memory, words_of};
 use crate::Status;
 use site_disk::{MemSite, MemSource};
-use std::alloc::{AllocError, Global};
+use std::alloc::AllocError;
 use std::test::Fail;
 use vec_record::{Bytes, Numbers};
 
@@ -258,16 +258,17 @@ const LIVES: [&[Turn]; 14] = [
 
 /// Runs a turn over a file, and gives what the file holds then.
 fn run_over(
-    alloc: Global,
+    rt: &HostRuntime,
     turn: &Turn,
     content: Bytes,
     piece: usize,
 ) -> Result<(Outcome, Bytes), AllocError> {
+    let alloc = rt.alloc();
     let words = words_of(alloc, turn.0)?;
     let input = bytes_of(alloc, turn.1.as_bytes())?;
     let mut source = MemSource::new(input, piece.max(1), Numbers::new(alloc));
     let mut site = MemSite::new(content, Numbers::new(alloc), None);
-    let status = run_in_memory(alloc, &words, &mut source, &mut site);
+    let status = run_in_memory(rt, &words, &mut source, &mut site);
     let end = ended(alloc, status, &source, &site)?;
     Ok((end, bytes_of(alloc, site.content())?))
 }
@@ -280,13 +281,14 @@ fn is_due(turn: &Turn, end: &Outcome) -> bool {
 
 /// The place of the first turn of a life that ends otherwise, with what it says.
 fn live(
-    alloc: Global,
+    rt: &HostRuntime,
     turns: &[Turn],
     piece: usize,
 ) -> Result<Option<(usize, Outcome)>, AllocError> {
+    let alloc = rt.alloc();
     let mut content = Bytes::new(alloc);
     for (place, turn) in turns.iter().enumerate() {
-        let (end, left) = run_over(alloc, turn, content, piece)?;
+        let (end, left) = run_over(rt, turn, content, piece)?;
         if !is_due(turn, &end) {
             return Ok(Some((place, end)));
         }
@@ -299,7 +301,7 @@ fn live(
 fn lives(rt: HostRuntime) -> Result<(), Fail> {
     for (number, turns) in LIVES.iter().enumerate() {
         for piece in [7usize, 4096] {
-            if let Some((place, end)) = live(rt.alloc(), turns, piece)? {
+            if let Some((place, end)) = live(&rt, turns, piece)? {
                 assert_eq!(rt;
                     String::from_utf8_lossy(rt.alloc(), &end.said)?.as_str(),
                     "",

@@ -7,24 +7,37 @@ use std::test::Fail;
 use vec_record::{Bytes, Numbers};
 
 /// The content of a new store.
-fn new_store(alloc: Global) -> Result<Bytes, AllocError> {
+fn new_store(rt: &HostRuntime) -> Result<Bytes, AllocError> {
+    let alloc = rt.alloc();
     let words = words_of(alloc, "init l1 1 1 2 100")?;
     let mut source = MemSource::new(Bytes::new(alloc), 1, Numbers::new(alloc));
     let mut site = MemSite::new(Bytes::new(alloc), Numbers::new(alloc), None);
-    let _ = run_in_memory(alloc, &words, &mut source, &mut site);
+    let _ = run_in_memory(rt, &words, &mut source, &mut site);
     bytes_of(alloc, site.content())
+}
+
+/// A new store has a gate page and a head page, whose other bytes are zero.
+#[test]
+fn new_store_bytes(rt: HostRuntime) -> Result<(), Fail> {
+    let mut due = bytes_of(rt.alloc(), b"\x01\0denswh")?;
+    due.append(repeated(rt.alloc(), b"\0", 16_376)?.as_slice())?;
+    due.append(b"\x02\0\0\0\0\0\0\0\x01\0\0\0\x01\0\0\0\x01\0\0\0\x02\0\0\0\x64\0\0\0")?;
+    due.append(repeated(rt.alloc(), b"\0", 16_356)?.as_slice())?;
+    assert_eq!(rt; new_store(&rt)?.as_slice(), due.as_slice());
+    Ok(())
 }
 
 /// What a run over a file with this content comes to.
 fn run_on_file(
-    alloc: Global,
+    rt: &HostRuntime,
     words: &str,
     input: Bytes,
     mut site: MemSite,
 ) -> Result<(Status, Bytes), AllocError> {
+    let alloc = rt.alloc();
     let words = words_of(alloc, words)?;
     let mut source = MemSource::new(input, 4096, Numbers::new(alloc));
-    let status = run_in_memory(alloc, &words, &mut source, &mut site);
+    let status = run_in_memory(rt, &words, &mut source, &mut site);
     Ok((status, bytes_of(alloc, site.said())?))
 }
 
@@ -120,9 +133,10 @@ const CHANGED: [Changed; 8] = [
 ];
 
 /// The file before its change.
-fn before(alloc: Global, born: bool) -> Result<MemSite, AllocError> {
+fn before(rt: &HostRuntime, born: bool) -> Result<MemSite, AllocError> {
+    let alloc = rt.alloc();
     let content = if born {
-        new_store(alloc)?
+        new_store(rt)?
     } else {
         Bytes::new(alloc)
     };
@@ -130,18 +144,19 @@ fn before(alloc: Global, born: bool) -> Result<MemSite, AllocError> {
 }
 
 /// Whether a run over a changed file comes to what its row says.
-fn comes_to(alloc: Global, row: &Changed) -> Result<bool, AllocError> {
-    let mut site = before(alloc, row.born)?;
+fn comes_to(rt: &HostRuntime, row: &Changed) -> Result<bool, AllocError> {
+    let alloc = rt.alloc();
+    let mut site = before(rt, row.born)?;
     let made = row.at < 100_000 && site.write_at(row.at, row.bytes).is_ok();
     let input = bytes_of(alloc, row.input.as_bytes())?;
-    let (status, said) = run_on_file(alloc, row.words, input, site)?;
+    let (status, said) = run_on_file(rt, row.words, input, site)?;
     Ok(made && status == row.status && said.as_slice() == row.said.as_bytes())
 }
 
 #[test]
 fn changed_files(rt: HostRuntime) -> Result<(), Fail> {
     for row in &CHANGED {
-        assert!(rt; comes_to(rt.alloc(), row)?, "{}: {}", row.at, row.words);
+        assert!(rt; comes_to(&rt, row)?, "{}: {}", row.at, row.words);
     }
     Ok(())
 }
@@ -169,9 +184,9 @@ fn long_lines(rt: HostRuntime) -> Result<(), Fail> {
         (4096, true, "refused 11 at 1\n"),
         (4097, true, "refused 18\n"),
     ] {
-        let site = before(rt.alloc(), true)?;
+        let site = before(&rt, true)?;
         let input = long_line(rt.alloc(), letters, in_batch)?;
-        let end = run_on_file(rt.alloc(), "serve", input, site)?;
+        let end = run_on_file(&rt, "serve", input, site)?;
         assert_eq!(rt; end.0, Status::Refused, "{letters} {in_batch}");
         assert_eq!(rt; end.1.as_slice(), said.as_bytes(), "{letters} {in_batch}");
     }
@@ -181,28 +196,30 @@ fn long_lines(rt: HostRuntime) -> Result<(), Fail> {
 const LINE_FEEDS: &[u8; 64] =
     b"\n\n\n\n\n\n\n\n\n\n\n\n\n\n\n\n\n\n\n\n\n\n\n\n\n\n\n\n\n\n\n\n\n\n\n\n\n\n\n\n\n\n\n\n\n\n\n\n\n\n\n\n\n\n\n\n\n\n\n\n\n\n\n\n";
 
-/// What a session of so many line feeds over a new store comes to.
-fn feed(alloc: Global, rounds: u32, more: &[u8]) -> Result<(Status, Bytes), AllocError> {
-    let site = before(alloc, true)?;
-    let mut input = repeated(alloc, LINE_FEEDS, rounds)?;
+/// What a session of 64 MiB of line feeds, with bytes before and behind them, comes to over a new store.
+fn feed(rt: &HostRuntime, front: &[u8], more: &[u8]) -> Result<(Status, Bytes), AllocError> {
+    let alloc = rt.alloc();
+    let site = before(rt, true)?;
+    let mut input = bytes_of(alloc, front)?;
+    input.append(repeated(alloc, LINE_FEEDS, 1_048_576)?.as_slice())?;
     input.append(more)?;
-    run_on_file(alloc, "serve", input, site)
+    run_on_file(rt, "serve", input, site)
 }
 
-/// A session of as many bytes as there may be is read to its end.
+/// A session of as many bytes as there may be is read to its end, and one of a byte more is too long. A batch that
+/// is open where the bytes that count end has no answer.
 #[test]
-fn longest_session(rt: HostRuntime) -> Result<(), Fail> {
-    let end = feed(rt.alloc(), 1_048_576, b"")?;
-    assert_eq!(rt; end.0, Status::Fine);
-    assert_eq!(rt; end.1.as_slice(), b"".as_slice());
-    Ok(())
-}
-
-/// One of a byte more is too long.
-#[test]
-fn too_long_session(rt: HostRuntime) -> Result<(), Fail> {
-    let end = feed(rt.alloc(), 1_048_576, b"\n")?;
-    assert_eq!(rt; end.0, Status::TooLong);
-    assert_eq!(rt; end.1.as_slice(), b"session too long\n".as_slice());
+fn longest_sessions(rt: HostRuntime) -> Result<(), Fail> {
+    for (front, more, status, said) in [
+        ("", "", Status::Fine, ""),
+        ("", "\n", Status::TooLong, "session too long\n"),
+        ("batch\n", "end\n", Status::TooLong, "session too long\n"),
+    ] {
+        let end = feed(&rt, front.as_bytes(), more.as_bytes())?;
+        assert!(rt;
+            end.0 == status && end.1.as_slice() == said.as_bytes(),
+            "{front:?} {more:?}"
+        );
+    }
     Ok(())
 }

@@ -1,4 +1,5 @@
 use Rattle.std.proofs.Common.{◌∙◌, Bool, ap, sym}
+use Rattle.site_disk.proofs.Moments.{joins_start}
 use Rattle.session_desk.specs.Session.{Request}
 use Rattle.session_desk.specs.Talks.{Answering}
 use Rattle.session_desk.specs.declared.requests.Asked.TheVariants as asked
@@ -16,8 +17,14 @@ returns-in-LongBatch-clause-moments g c = λ t q given. quiet-answer c.loads_are
 pub returns-in-Cut-clause-moments : goal.returns-in-Cut-clause-moments
 returns-in-Cut-clause-moments g c = λ t q given. quiet-answer c.loads_are_stores.ensures c.args.warehouse.now q _ (g.T.Site.state c.args.site.now) (g.met.T.Site.is_now c.args.site.now t) c.requires.serving (c.requires.ready t)
 
-pub returns-in-Report-clause-moments : goal.returns-in-Report-clause-moments
-returns-in-Report-clause-moments g c = λ t q given. quiet-answer c.loads_are_stores.ensures c.args.warehouse.now q _ (g.T.Site.state c.args.site.now) (g.met.T.Site.is_now c.args.site.now t) c.requires.serving (c.requires.ready t)
+pub returns-in-Line-clause-moments : goal.returns-in-Line-clause-moments
+returns-in-Line-clause-moments g c = λ t q given. quiet-answer c.loads_are_stores.ensures c.args.warehouse.now q _ (g.T.Site.state c.args.site.now) (g.met.T.Site.is_now c.args.site.now t) c.requires.serving (c.requires.ready t)
 
-pub returns-in-Other-clause-moments : goal.returns-in-Other-clause-moments
-returns-in-Other-clause-moments g c = λ t q given. quiet-answer c.loads_are_stores.ensures c.args.warehouse.now q _ (g.T.Site.state c.args.site.now) (g.met.T.Site.is_now c.args.site.now t) c.requires.serving (c.requires.ready t)
+pub returns-in-LongBatch-clause-joins : goal.returns-in-LongBatch-clause-joins
+returns-in-LongBatch-clause-joins g c = λ t. joins_start (g.T.Site.state c.args.site.now) (g.met.T.Site.is_now c.args.site.now t)
+
+pub returns-in-Cut-clause-joins : goal.returns-in-Cut-clause-joins
+returns-in-Cut-clause-joins g c = λ t. joins_start (g.T.Site.state c.args.site.now) (g.met.T.Site.is_now c.args.site.now t)
+
+pub returns-in-Line-clause-joins : goal.returns-in-Line-clause-joins
+returns-in-Line-clause-joins g c = λ t. joins_start (g.T.Site.state c.args.site.now) (g.met.T.Site.is_now c.args.site.now t)

@@ -9,4 +9,4 @@ birth-requires-clause-count g c = ap count_of c.in-Ok.ensures ∙ new-count (val
 
 pub returns-in-Ok-birth-clause-moments : goal.returns-in-Ok-birth-clause-moments
 returns-in-Ok-birth-clause-moments g c = λ t.
-    bears (values_of c.args.params.now) c.in-Ok.first (g.T.Site.state c.args.site.now) (g.T.Site.state c.birth.new.site) (g.T.Site.state c.say.new.site) c.in-Ok.ensures (c.birth.ensures.told t) (c.say.ensures.moments t)
+    bears (values_of c.args.params.now) c.in-Ok.first c.in-Ok.ensures (g.T.Site.state c.args.site.now) (g.T.Site.state c.birth.new.site) (g.T.Site.state c.say.new.site) (c.birth.ensures.told t) (c.in-Ok-birth.ensures.told t).holds (c.say.ensures.moments t)

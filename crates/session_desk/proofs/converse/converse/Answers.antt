@@ -1,6 +1,7 @@
 use Rattle.std.proofs.Common.{rules, ◌≡◌, ⊎_elim, Bool, false, Err, refl, sym, ap, subst, ◌∙◌}
 use Rattle.std.specs.Prelude.{◌||◌}
 use Rattle.site_disk.specs.State.{Safe}
+use Rattle.site_disk.proofs.Moments.{joins_start, joins_on}
 use Rattle.session_desk.specs.declared.status.Status.TheVariants as status
 use Rattle.session_desk.specs.Lines.{Reading}
 use Rattle.session_desk.specs.Talks.{IsGoing, IsTalk, IsCutOff, IsEven}
@@ -32,6 +33,7 @@ turns-init g c = record {
       subst P (sym c.in-Ok.ensures) (begins-going c.loads_are_stores.ensures g.T.Site.tells w input a (λ u. g.met.T.Site.is_now c.args.site.now u) c.requires.serving c.requires.ready);
   serving = c.requires.serving;
   ready = c.requires.ready;
+  joins = λ t. joins_start (g.T.Site.state c.args.site.now) (g.met.T.Site.is_now c.args.site.now t);
   begins = search rules;
   whole = search rules;
   room = search rules;
@@ -46,58 +48,59 @@ turns-preserved g c = record {
       let input = g.S.Source.left c.args.source.now in
       let a = g.T.Site.state c.args.site.now in
       let b = g.T.Site.state c.turns.site in
-      let d = g.T.Site.state c.reply.new.site in
+      let d = g.T.Site.state c.step.new.site in
       let left = g.S.Source.left c.turns.source in
       let left' = g.S.Source.left c.next_request.new.source in
       let going = c.turns.invariant.going s in
       let source = going.read.same_source in
       let next = some-asked c.in-Ok-Some.field-0 c.in-Ok-Some.asked c.turns.reader c.next_request.new.reader left left' c.in-Ok-Some.field-0-is (c.in-Ok-Some.ensures.told s source) in
       let q = next.0 in
-      let both : c.if-refused.refused ≡ (c.turns.refused || c.in-Ok-reply.refuses) =
+      let both : c.if-refused.refused ≡ (c.turns.refused || c.in-Ok-step.refuses) =
       elim c.if-refused.branch [
-        | then-refused w' ↦ w'.refused-is ∙ w'.if-refused.true ∙ sym (ap (λ (x : Bool). x || c.in-Ok-reply.refuses) w'.if-refused.true)
-        | else-refused w' ↦ w'.refused-is ∙ sym (ap (λ (x : Bool). x || c.in-Ok-reply.refuses) w'.if-refused.false)
+        | then-refused w' ↦ w'.refused-is ∙ w'.if-refused.true ∙ sym (ap (λ (x : Bool). x || c.in-Ok-step.refuses) w'.if-refused.true)
+        | else-refused w' ↦ w'.refused-is ∙ sym (ap (λ (x : Bool). x || c.in-Ok-step.refuses) w'.if-refused.false)
       ] in
-      let P : Bool → Type 0 = λ x. IsGoing g.T.Site.tells w input a x c.reply.new.warehouse c.next_request.new.reader left' d in
+      let P : Bool → Type 0 = λ x. IsGoing g.T.Site.tells w input a x c.step.new.self.warehouse c.next_request.new.reader left' d in
       subst P (sym both)
-      (goes-on g.T.Site.tells w c.turns.warehouse c.reply.new.warehouse input a b d c.turns.refused c.in-Ok-reply.refuses c.turns.reader c.next_request.new.reader left left' q going next.2
-      (c.next_request.ensures.same_source s source) c.next_request.ensures.ended (c.in-Ok-reply.ensures.state q next.1) (c.in-Ok-reply.ensures.refused q next.1)
-      (λ t. (c.reply.ensures.moments t q next.1, c.in-Ok-reply.ensures.said t q next.1)));
+      (goes-on g.T.Site.tells w c.turns.session.warehouse c.step.new.self.warehouse input a b d c.turns.refused c.in-Ok-step.refuses c.turns.reader c.next_request.new.reader left left' q going next.2
+      (c.next_request.ensures.same_source s source) c.next_request.ensures.ended (c.in-Ok-step.ensures.state q next.1) (c.in-Ok-step.ensures.refused q next.1)
+      (λ t. (c.step.ensures.moments t q next.1, c.in-Ok-step.ensures.said t q next.1)));
   serving = search rules;
   ready = search rules;
-  begins = λ t. more-on (g.T.Site.state c.args.site.now).said (g.T.Site.state c.turns.site).said (g.T.Site.state c.reply.new.site).said (c.turns.invariant.begins t) (c.reply.ensures.begins t);
+  joins = λ t. joins_on (g.T.Site.state c.args.site.now) (g.T.Site.state c.turns.site) (g.T.Site.state c.step.new.site) (c.turns.invariant.joins t) (c.step.ensures.joins t);
+  begins = λ t. more-on (g.T.Site.state c.args.site.now).said (g.T.Site.state c.turns.site).said (g.T.Site.state c.step.new.site).said (c.turns.invariant.begins t) (c.step.ensures.begins t);
   whole = search rules;
   room = search rules;
   source_later = search rules;
   site_later = search rules;
 }
 
-pub returns-in-Err-reply-clause-moments : goal.returns-in-Err-reply-clause-moments
-returns-in-Err-reply-clause-moments g c = λ s t.
+pub returns-in-Err-step-clause-moments : goal.returns-in-Err-step-clause-moments
+returns-in-Err-step-clause-moments g c = λ s t.
     let left = g.S.Source.left c.turns.source in
     let left' = g.S.Source.left c.next_request.new.source in
     let going = c.turns.invariant.going s in
     let next = some-asked c.in-Ok-Some.field-0 c.in-Ok-Some.asked c.turns.reader c.next_request.new.reader left left' c.in-Ok-Some.field-0-is (c.in-Ok-Some.ensures.told s going.read.same_source) in
-    turn-failed g.T.Site.tells c.args.warehouse c.turns.warehouse (g.S.Source.left c.args.source.now) (g.T.Site.state c.args.site.now) (g.T.Site.state c.turns.site) (g.T.Site.state c.reply.new.site) c.turns.refused
-    c.turns.reader c.next_request.new.reader left left' next.0 t going next.2 (c.reply.ensures.moments t next.0 next.1)
+    turn-failed g.T.Site.tells c.args.warehouse c.turns.session.warehouse (g.S.Source.left c.args.source.now) (g.T.Site.state c.args.site.now) (g.T.Site.state c.turns.site) (g.T.Site.state c.step.new.site) c.turns.refused
+    c.turns.reader c.next_request.new.reader left left' next.0 t going next.2 (c.step.ensures.moments t next.0 next.1)
 
-pub returns-in-Err-reply-clause-settled : goal.returns-in-Err-reply-clause-settled
-returns-in-Err-reply-clause-settled g c = λ s t ended.
+pub returns-in-Err-step-clause-settled : goal.returns-in-Err-step-clause-settled
+returns-in-Err-step-clause-settled g c = λ s t ended.
     let left = g.S.Source.left c.turns.source in
     let left' = g.S.Source.left c.next_request.new.source in
     let going = c.turns.invariant.going s in
     let next = some-asked c.in-Ok-Some.field-0 c.in-Ok-Some.asked c.turns.reader c.next_request.new.reader left left' c.in-Ok-Some.field-0-is (c.in-Ok-Some.ensures.told s going.read.same_source) in
-    let memory : c.in-Err-reply.status ≡ status.Memory =
-    ⊎_elim (λ source. ⊎_elim (λ site. absurd (cc (source, site))) (λ m. m) c.in-Err-reply.ensures.status) (λ m. m) ended in
-    let was = c.in-Err-reply.is ∙ ap Err memory in
-    even-out g.T.Site.tells c.args.warehouse c.turns.warehouse (g.S.Source.left c.args.source.now) (g.T.Site.state c.args.site.now) (g.T.Site.state c.turns.site) (g.T.Site.state c.reply.new.site) c.turns.refused
-    c.turns.reader left t going (c.reply.ensures.unsaid t was) (c.reply.ensures.unsaved t next.0 next.1 was)
+    let memory : c.in-Err-step.status ≡ status.Memory =
+    ⊎_elim (λ source. ⊎_elim (λ site. absurd (cc (source, site))) (λ m. m) c.in-Err-step.ensures.status) (λ m. m) ended in
+    let was = c.in-Err-step.is ∙ ap Err memory in
+    even-out g.T.Site.tells c.args.warehouse c.turns.session.warehouse (g.S.Source.left c.args.source.now) (g.T.Site.state c.args.site.now) (g.T.Site.state c.turns.site) (g.T.Site.state c.step.new.site) c.turns.refused
+    c.turns.reader left t going (c.step.ensures.unsaid t was) (c.step.ensures.unsaved t next.0 next.1 was)
 
-pub returns-in-Err-reply-clause-begins : goal.returns-in-Err-reply-clause-begins
-returns-in-Err-reply-clause-begins g c = λ t. more-on (g.T.Site.state c.args.site.now).said (g.T.Site.state c.turns.site).said (g.T.Site.state c.reply.new.site).said (c.turns.invariant.begins t) (c.reply.ensures.begins t)
+pub returns-in-Err-step-clause-begins : goal.returns-in-Err-step-clause-begins
+returns-in-Err-step-clause-begins g c = λ t. more-on (g.T.Site.state c.args.site.now).said (g.T.Site.state c.turns.site).said (g.T.Site.state c.step.new.site).said (c.turns.invariant.begins t) (c.step.ensures.begins t)
 
-pub returns-in-Err-reply-clause-taken : goal.returns-in-Err-reply-clause-taken
-returns-in-Err-reply-clause-taken g c = λ s.
+pub returns-in-Err-step-clause-taken : goal.returns-in-Err-step-clause-taken
+returns-in-Err-step-clause-taken g c = λ s.
     let going = c.turns.invariant.going s in
     taken (g.S.Source.left c.args.source.now) going.asked c.turns.reader (g.S.Source.left c.turns.source) (g.S.Source.left c.next_request.new.source) going.read (c.next_request.ensures.taken s going.read.same_source)
 
@@ -107,7 +110,7 @@ returns-in-Ok-None-clause-answers g c = λ s t fine.
     let left' = g.S.Source.left c.next_request.new.source in
     let going = c.turns.invariant.going s in
     let none = none-asked c.in-Ok-None.field-0 c.turns.reader c.next_request.new.reader left left' c.in-Ok-None.field-0-is (c.in-Ok-None.ensures.told s going.read.same_source) in
-    ends-fine g.T.Site.tells c.args.warehouse c.turns.warehouse (g.S.Source.left c.args.source.now) (g.T.Site.state c.args.site.now) (g.T.Site.state c.turns.site) c.turns.refused c.turns.reader left c.end_of.result t going none.0 none.1 c.end_of.ensures
+    ends-fine g.T.Site.tells c.args.warehouse c.turns.session.warehouse (g.S.Source.left c.args.source.now) (g.T.Site.state c.args.site.now) (g.T.Site.state c.turns.site) c.turns.refused c.turns.reader left c.end_of.result t going none.0 none.1 c.end_of.ensures
 
 pub returns-in-Ok-None-clause-end : goal.returns-in-Ok-None-clause-end
 returns-in-Ok-None-clause-end g c = λ s t fine.
@@ -115,7 +118,7 @@ returns-in-Ok-None-clause-end g c = λ s t fine.
     let left' = g.S.Source.left c.next_request.new.source in
     let going = c.turns.invariant.going s in
     let none = none-asked c.in-Ok-None.field-0 c.turns.reader c.next_request.new.reader left left' c.in-Ok-None.field-0-is (c.in-Ok-None.ensures.told s going.read.same_source) in
-    all-kept c.loads_are_stores.ensures g.T.Site.tells c.args.warehouse c.turns.warehouse (g.S.Source.left c.args.source.now) (g.T.Site.state c.args.site.now) (g.T.Site.state c.turns.site) c.turns.refused c.turns.reader left going none.0
+    all-kept c.loads_are_stores.ensures g.T.Site.tells c.args.warehouse c.turns.session.warehouse (g.S.Source.left c.args.source.now) (g.T.Site.state c.args.site.now) (g.T.Site.state c.turns.site) c.turns.refused c.turns.reader left going none.0
     c.turns.invariant.serving (g.T.Site.state c.turns.site) (g.met.T.Site.is_now c.turns.site t) (c.turns.invariant.ready t)
 
 pub returns-in-Ok-None-clause-taken : goal.returns-in-Ok-None-clause-taken
@@ -130,7 +133,7 @@ returns-in-Err-clause-answers g c = λ s t fine.
     let going = c.turns.invariant.going s in
     let ended = too-long-only c.break_off.result c.break_off.ensures.status fine in
     let much = too-much c.in-Err.fault c.turns.reader c.next_request.new.reader left left' (c.break_off.ensures.too_long ended) (c.in-Err.ensures.told s going.read.same_source) in
-    ends-too-long g.T.Site.tells c.args.warehouse c.turns.warehouse (g.S.Source.left c.args.source.now) (g.T.Site.state c.args.site.now) (g.T.Site.state c.turns.site) (g.T.Site.state c.break_off.new.site) c.turns.refused
+    ends-too-long g.T.Site.tells c.args.warehouse c.turns.session.warehouse (g.S.Source.left c.args.source.now) (g.T.Site.state c.args.site.now) (g.T.Site.state c.turns.site) (g.T.Site.state c.break_off.new.site) c.turns.refused
     c.turns.reader left c.break_off.result t going much.0 much.1 ended (c.break_off.ensures.said t ended)
 
 pub returns-in-Err-clause-whole : goal.returns-in-Err-clause-whole
@@ -143,7 +146,7 @@ returns-in-Err-clause-whole g c = λ s t source.
     let broken = broken-off c.in-Err.fault c.turns.reader c.next_request.new.reader left left' fault (c.in-Err.ensures.told s going.read.same_source) in
     let P : g.row.T.Denot → Type 0 = λ x. IsCutOff c.args.warehouse (g.S.Source.left c.args.source.now) left' (g.T.Site.state c.args.site.now) (g.T.Site.state x) in
     subst P (sym still)
-    (cut-off g.T.Site.tells c.args.warehouse c.turns.warehouse (g.S.Source.left c.args.source.now) (g.T.Site.state c.args.site.now) (g.T.Site.state c.turns.site) c.turns.refused c.turns.reader left left' t going broken)
+    (cut-off g.T.Site.tells c.args.warehouse c.turns.session.warehouse (g.S.Source.left c.args.source.now) (g.T.Site.state c.args.site.now) (g.T.Site.state c.turns.site) c.turns.refused c.turns.reader left left' t going broken)
 
 pub returns-in-Err-clause-moments : goal.returns-in-Err-clause-moments
 returns-in-Err-clause-moments g c = λ s t.
@@ -155,7 +158,7 @@ returns-in-Err-clause-moments g c = λ s t.
     ⊎_elim
     (λ fault.
     let much = too-much c.in-Err.fault c.turns.reader c.next_request.new.reader left left' fault (c.in-Err.ensures.told s going.read.same_source) in
-    too-long-moments c.loads_are_stores.ensures g.T.Site.tells c.args.warehouse c.turns.warehouse input a (g.T.Site.state c.turns.site) (g.T.Site.state c.break_off.new.site) c.turns.refused
+    too-long-moments c.loads_are_stores.ensures g.T.Site.tells c.args.warehouse c.turns.session.warehouse input a (g.T.Site.state c.turns.site) (g.T.Site.state c.break_off.new.site) c.turns.refused
     c.turns.reader left t going much.0 much.1 c.turns.invariant.serving (c.turns.invariant.ready t) (c.break_off.ensures.moments t))
     (λ other.
     let P : g.row.T.Denot → Type 0 = λ x. Safe a (g.T.Site.state x) (IsTalk c.args.warehouse input a) in
@@ -171,8 +174,8 @@ returns-in-Err-clause-end g c = λ s t fine.
     let much = too-much c.in-Err.fault c.turns.reader c.next_request.new.reader left left' (c.break_off.ensures.too_long ended) (c.in-Err.ensures.told s going.read.same_source) in
     let b = g.T.Site.state c.turns.site in
     let d = g.T.Site.state c.break_off.new.site in
-    all-kept c.loads_are_stores.ensures g.T.Site.tells c.args.warehouse c.turns.warehouse (g.S.Source.left c.args.source.now) (g.T.Site.state c.args.site.now) b c.turns.refused c.turns.reader left going much.0
-    c.turns.invariant.serving d (g.met.T.Site.is_now c.break_off.new.site t) (holds-on c.turns.warehouse.pages b d (c.turns.invariant.ready t) (c.break_off.ensures.alone t))
+    all-kept c.loads_are_stores.ensures g.T.Site.tells c.args.warehouse c.turns.session.warehouse (g.S.Source.left c.args.source.now) (g.T.Site.state c.args.site.now) b c.turns.refused c.turns.reader left going much.0
+    c.turns.invariant.serving d (g.met.T.Site.is_now c.break_off.new.site t) (holds-on c.turns.session.warehouse.pages b d (c.turns.invariant.ready t) (c.break_off.ensures.alone t))
 
 pub returns-in-Err-clause-settled : goal.returns-in-Err-clause-settled
 returns-in-Err-clause-settled g c = λ s t ended.
@@ -187,8 +190,8 @@ returns-in-Err-clause-settled g c = λ s t ended.
     ended) in
     let P : g.row.T.Denot → Type 0 = λ x. IsEven c.args.warehouse input a (g.T.Site.state x) in
     subst P (sym still)
-    (even-out g.T.Site.tells c.args.warehouse c.turns.warehouse input a b b c.turns.refused c.turns.reader left t going refl
-    (λ i left'. rest-store c.loads_are_stores.ensures c.turns.warehouse b c.turns.invariant.serving (c.turns.invariant.ready t) i left'))
+    (even-out g.T.Site.tells c.args.warehouse c.turns.session.warehouse input a b b c.turns.refused c.turns.reader left t going refl
+    (λ i left'. rest-store c.loads_are_stores.ensures c.turns.session.warehouse b c.turns.invariant.serving (c.turns.invariant.ready t) i left'))
 
 pub returns-in-Err-clause-begins : goal.returns-in-Err-clause-begins
 returns-in-Err-clause-begins g c = λ t. more-on (g.T.Site.state c.args.site.now).said (g.T.Site.state c.turns.site).said (g.T.Site.state c.break_off.new.site).said (c.turns.invariant.begins t) (c.break_off.ensures.begins t)
@@ -197,3 +200,12 @@ pub returns-in-Err-clause-taken : goal.returns-in-Err-clause-taken
 returns-in-Err-clause-taken g c = λ s.
     let going = c.turns.invariant.going s in
     taken (g.S.Source.left c.args.source.now) going.asked c.turns.reader (g.S.Source.left c.turns.source) (g.S.Source.left c.next_request.new.source) going.read (c.next_request.ensures.taken s going.read.same_source)
+
+pub returns-in-Err-step-clause-joins : goal.returns-in-Err-step-clause-joins
+returns-in-Err-step-clause-joins g c = λ t. joins_on (g.T.Site.state c.args.site.now) (g.T.Site.state c.turns.site) (g.T.Site.state c.step.new.site) (c.turns.invariant.joins t) (c.step.ensures.joins t)
+
+pub returns-in-Err-clause-joins : goal.returns-in-Err-clause-joins
+returns-in-Err-clause-joins g c = λ t. joins_on (g.T.Site.state c.args.site.now) (g.T.Site.state c.turns.site) (g.T.Site.state c.break_off.new.site) (c.turns.invariant.joins t) (c.break_off.ensures.alone t).joins
+
+pub returns-in_default-clause-joins : goal.returns-in_default-clause-joins
+returns-in_default-clause-joins g c = λ t. joins_start (g.T.Site.state c.args.site.now) (g.met.T.Site.is_now c.args.site.now t)

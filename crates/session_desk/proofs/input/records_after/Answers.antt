@@ -2,7 +2,7 @@ use Rattle.std.proofs.Common.{◌≡◌, ◌+◌, ℕ, sym, ap, subst, ◌∙◌
 use Rattle.std.specs.Prelude.{Some, Err}
 use Rattle.std.specs.List.{AllByRecursion}
 use Rattle.vec_record.specs.Held.{Held}
-use Rattle.batch_text.specs.Batch.{Fits}
+use Rattle.batch_text.specs.Batch.{IsChangeOf}
 use Rattle.session_desk.specs.Input.{unless_faulty}
 use Rattle.session_desk.proofs.Batches.{faulty_batch}
 use Rattle.session_desk.proofs.input.records_after.Goals as goal
@@ -16,5 +16,5 @@ returns-in-Some-clause-refused c = λ r e.
 pub apply_all-requires-clause-fits : goal.apply_all-requires-clause-fits
 apply_all-requires-clause-fits c =
     let width : c.new-records.result.width ≡ _ = ap (λ (h : Held). h.width) c.new-records.ensures ∙ c.width.ensures.value in
-    let P : ℕ → Type 0 = λ w. AllByRecursion (Fits w) c.args.batch.changes in
+    let P : ℕ → Type 0 = λ w. AllByRecursion (IsChangeOf w) c.args.batch.changes in
     subst P (sym width) c.requires.fits

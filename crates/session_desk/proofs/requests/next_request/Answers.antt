@@ -1,7 +1,7 @@
 use Rattle.std.proofs.Common.{refl, ◌∙◌, ap, subst, Result}
 use Rattle.std.proofs.lemmas.Result.{err_from_is_err_and}
 use Rattle.std.specs.Prelude.{Ok}
-use Rattle.session_desk.specs.Session.{Line}
+use Rattle.session_desk.specs.Session.{Ask}
 use Rattle.session_desk.specs.Passing.{Words, Bodies}
 use Rattle.session_desk.specs.declared.reading.ReadFault.{ReadFault}
 use Rattle.session_desk.specs.declared.requests.Asked.{Asked}
@@ -63,32 +63,14 @@ returns-in_ok-read_body-in-Batch-clause-taken g c = λ s h.
     let told = subst (λ (r : Result Word ReadFault). Words r old left mid left') (c.in_ok-next_word.was ∙ ap Ok c.in-Batch.is) (c.next_word.ensures.told s h) in
     taken_more _ told (c.read_body.ensures.taken s (c.next_word.ensures.same_source s h))
 
-pub returns-in-Report-clause-told : goal.returns-in-Report-clause-told
-returns-in-Report-clause-told g c = λ s h.
+pub returns-in-Line-clause-told : goal.returns-in-Line-clause-told
+returns-in-Line-clause-told g c = λ s h.
     let old = c.args.reader.now in
     let left = g.S.Source.left c.args.source.now in
     let mid = c.next_word.new.reader in
     let left' = g.S.Source.left c.next_word.new.source in
-    let told = subst (λ (r : Result Word ReadFault). Words r old left mid left') (c.in_ok-next_word.was ∙ ap Ok c.in-Report.is) (c.next_word.ensures.told s h) in
-    (Line told.line, (told.line, refl, told.size, told.word), next_of told.passes)
-
-pub returns-in-LongLine-clause-told : goal.returns-in-LongLine-clause-told
-returns-in-LongLine-clause-told g c = λ s h.
-    let old = c.args.reader.now in
-    let left = g.S.Source.left c.args.source.now in
-    let mid = c.next_word.new.reader in
-    let left' = g.S.Source.left c.next_word.new.source in
-    let told = subst (λ (r : Result Word ReadFault). Words r old left mid left') (c.in_ok-next_word.was ∙ ap Ok c.in-LongLine.is) (c.next_word.ensures.told s h) in
-    (Line told.line, (told.line, refl, told.size), next_of told.passes)
-
-pub returns-in-Other-clause-told : goal.returns-in-Other-clause-told
-returns-in-Other-clause-told g c = λ s h.
-    let old = c.args.reader.now in
-    let left = g.S.Source.left c.args.source.now in
-    let mid = c.next_word.new.reader in
-    let left' = g.S.Source.left c.next_word.new.source in
-    let told = subst (λ (r : Result Word ReadFault). Words r old left mid left') (c.in_ok-next_word.was ∙ ap Ok c.in-Other.is) (c.next_word.ensures.told s h) in
-    (Line told.line, (told.line, refl, told.size, told.word), next_of told.passes)
+    let told = subst (λ (r : Result Word ReadFault). Words r old left mid left') (c.in_ok-next_word.was ∙ ap Ok c.in-Line.is) (c.next_word.ensures.told s h) in
+    (Ask c.in-Line.line, refl, next_of told)
 
 pub returns-in-End-clause-told : goal.returns-in-End-clause-told
 returns-in-End-clause-told g c = λ s h.

@@ -13,15 +13,15 @@ returns-in_err-pages-clause-told g c = λ t.
     let p = err_from_is_err_and c.from_residual.result c.from_residual.ensures.1 in
     let told = c.in_err-pages.ensures.told t in
     let a = g.T.Site.state c.args.site.now in
-    let P : Result AnyWarehouse OpenFault → Type 0 = λ r. Loads r a (g.T.Site.state c.open_store.new.site) in
+    let P : Result AnyWarehouse OpenFault → Type 0 = λ r. Loads r a (g.T.Site.state c.open_pages.new.site) in
     let is : c.from_residual.result ≡ Err c.in_err-pages.field-0.0 = p.1 ∙ ap Err p.2 in
-    subst P (sym is) (record { safe = told.safe; said = told.said; store = λ inside. gate-verdict a.content c.in_err-pages.field-0.0 told.list inside; holds = told.holds })
+    subst P (sym is) (record { safe = told.safe; said = told.said; store = λ inside. gate-verdict a.content c.in_err-pages.field-0.0 told.list inside; holds = λ ok i left. ap opening ((told.rests ok).only i left) ∙ (told.rests ok).opens })
 
 pub returns-in-Ok-clause-told : goal.returns-in-Ok-clause-told
 returns-in-Ok-clause-told g c = λ t.
     let told = c.in_ok-pages.ensures.told t in
     let a = g.T.Site.state c.args.site.now in
-    let b = g.T.Site.state c.open_store.new.site in
+    let b = g.T.Site.state c.open_pages.new.site in
     let w = state_of c.in-Ok.warehouse in
     let P : List (List ℕ) → Type 0 = λ pages. Holds pages b in
     record {
@@ -35,7 +35,7 @@ pub returns-in-Err-clause-told : goal.returns-in-Err-clause-told
 returns-in-Err-clause-told g c = λ t.
     let told = c.in_ok-pages.ensures.told t in
     let a = g.T.Site.state c.args.site.now in
-    let b = g.T.Site.state c.open_store.new.site in
+    let b = g.T.Site.state c.open_pages.new.site in
     let P : OpenFault → Type 0 = λ f. Loads (Err f) a b in
     subst P (sym c.fault_of.ensures) (record {
       safe = told.safe;

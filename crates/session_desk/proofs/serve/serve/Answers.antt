@@ -1,6 +1,7 @@
 use Rattle.std.proofs.Common.{⊎_elim, sym, subst}
 use Rattle.site_disk.specs.State.{Safe}
 use Rattle.site_disk.specs.Causes.{Rose}
+use Rattle.site_disk.proofs.Moments.{joins_on}
 use Rattle.session_desk.specs.Courses.{session}
 use Rattle.session_desk.specs.Headline.{IsMoment, IsSettled}
 use Rattle.session_desk.specs.Opened.{state_of}
@@ -82,3 +83,9 @@ returns-in-Err-clause-settled g c = λ s t sound ended.
     let memory = ⊎_elim (λ source. never-source c.say_fault.result c.say_fault.ensures.answers source) (λ m. m) ended in
     let P : g.row.T.Denot → Type 0 = λ x. IsSettled input a (g.T.Site.state x) in
     subst P (sym (c.say_fault.ensures.quiet memory)) (opening-settled c.same_openings_are_alike.ensures a (g.T.Site.state c.begin.new.site) input sound told.safe told.said)
+
+pub returns-in-Ok-clause-joins : goal.returns-in-Ok-clause-joins
+returns-in-Ok-clause-joins g c = λ t. joins_on (g.T.Site.state c.args.site.now) (g.T.Site.state c.begin.new.site) (g.T.Site.state c.converse_by_metric.new.site) (c.begin.ensures.told t).safe.joins (c.converse_by_metric.ensures.joins t)
+
+pub returns-in-Err-clause-joins : goal.returns-in-Err-clause-joins
+returns-in-Err-clause-joins g c = λ t. joins_on (g.T.Site.state c.args.site.now) (g.T.Site.state c.begin.new.site) (g.T.Site.state c.say_fault.new.site) (c.begin.ensures.told t).safe.joins (c.say_fault.ensures.moments t).joins
