@@ -1,0 +1,14 @@
+use Rattle.std.proofs.Common.{ap}
+use Rattle.count_book.specs.Counted.{offered}
+use Rattle.count_book.proofs.Changes.{given, wrote, kept}
+use Rattle.count_book.proofs.book.CountBook.offer_anchor.Goals as goal
+use Rattle.count_book.proofs.book.CountBook.offer_anchor.Goals.{in-Some, in-None}
+
+pub returns : goal.returns
+returns c =
+    elim c.match-get_mut.branch [
+      | in-Some w ↦ rw (w.self-inside-is, ← c.self.view_is) (ap (λ m. record { minpts = c.self.inside.minpts; rows = m })
+          (wrote (offered c.self.inside.minpts c.args.core) c.self.inside.rows _ c.args.number _ w.offer.new.self w.in-Some.ensures.value (given w.in-Some.is (c.get_mut.follows.holds w.offer.new.self)) w.offer.ensures))
+      | in-None w ↦ rw (w.self-inside-is, ← c.self.view_is) (ap (λ m. record { minpts = c.self.inside.minpts; rows = m })
+          (kept (offered c.self.inside.minpts c.args.core) c.self.inside.rows _ c.args.number w.in-None.ensures.value c.get_mut.follows.holds-at-none))
+    ]

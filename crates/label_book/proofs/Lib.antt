@@ -1,0 +1,11 @@
+pub mod Views
+pub mod Added
+pub mod Founded
+pub mod Taken
+pub mod Left
+pub mod Merged
+pub mod Joined
+pub mod Joining
+pub mod Parted
+pub mod Counting
+pub mod Sorting
