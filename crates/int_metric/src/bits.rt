@@ -1,3 +1,5 @@
+//! The number of bits in which two vectors differ.
+
 ghost use Rattle.std.specs.Prelude.{◌≡◌, ◌*◌, ◌≤◌, length, refl};
 ghost use Rattle.vec_record.specs.Distance.{all_bits_apart};
 ghost use Rattle.vec_record.specs.declared.kind.MetricKind.TheVariants.{Hamming as bit_kind};
@@ -97,16 +99,6 @@ impl Kernel for Hamming {
     fn is_near(a: &[u8], b: &[u8], radius: u32) -> bool {
         differing_bits(a, b) <= radius
     }
-
-    #[inline(always)]
-    fn unrolls_places(_width: usize) -> bool {
-        true
-    }
-
-    #[inline(always)]
-    fn unrolls_range(_width: usize) -> bool {
-        true
-    }
 }
 
 // By words of eight bytes, and by bytes what is left.
@@ -132,7 +124,7 @@ fn differing_bits<'a, 'b>(mut a: &'a [u8], mut b: &'b [u8]) -> u32
     }
 }
 
-#[inline]
+#[inline(always)]
 fn bits_of_word(x: &[u8; 8], y: &[u8; 8]) -> u32
     ensures is { result ≡ all_bits_apart x.now y.now }
     ensures small { result ≤ 64 }
@@ -151,7 +143,7 @@ fn bits_of_rest(a: &[u8], b: &[u8]) -> u32
     bits_of_bytes(a, b)
 }
 
-#[inline]
+#[inline(always)]
 fn bits_of_bytes(a: &[u8], b: &[u8]) -> u32
     requires same { length a.now ≡ length b.now }
     requires small { length a.now ≤ 512 }

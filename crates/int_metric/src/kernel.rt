@@ -1,4 +1,7 @@
 //! Loops over the rows of a block, for every metric and at any width.
+//!
+//! Each loop is a function that is not inlined: where the compiler puts many of them into one function it leaves
+//! their bytes to be taken one by one.
 
 ghost use Rattle.std.specs.Prelude.{◌≡◌, ℕ, ◌+◌, ◌-◌, ◌≤◌, nat_le, List, length, take};
 ghost use Rattle.vec_record.specs.Asked.{ArePlaces, near_at, near_rows, AreFar};
@@ -27,12 +30,6 @@ pub(crate) trait Kernel {
         requires same { length a.now ≡ length b.now }
         requires small { length a.now ≤ 512 }
         ensures { result ≡ nat_le (dist a.now b.now) radius };
-
-    /// Whether a loop over given places is faster at this width where the compiler knows it. Measured.
-    fn unrolls_places(width: usize) -> bool;
-
-    /// Whether a loop over a range is faster at this width where the compiler knows it. Measured.
-    fn unrolls_range(width: usize) -> bool;
 }
 
 // At a width that the compiler knows.
@@ -75,50 +72,35 @@ pub(crate) fn within<K: Kernel>(
     ensures near { take result near.new ≡ near_at K.dist centre.now block.now radius places.now }
     ensures few { result ≤ length places.now }
 {
-    if K::unrolls_places(1) {
-        if let Some(known) = centre.as_array::<1>() {
-            return within_known::<K, 1>(known, block, places, radius, near);
-        }
+    if let Some(known) = centre.as_array::<1>() {
+        return within_known::<K, 1>(known, block, places, radius, near);
     }
-    if K::unrolls_places(2) {
-        if let Some(known) = centre.as_array::<2>() {
-            return within_known::<K, 2>(known, block, places, radius, near);
-        }
+    if let Some(known) = centre.as_array::<2>() {
+        return within_known::<K, 2>(known, block, places, radius, near);
     }
-    if K::unrolls_places(4) {
-        if let Some(known) = centre.as_array::<4>() {
-            return within_known::<K, 4>(known, block, places, radius, near);
-        }
+    if let Some(known) = centre.as_array::<4>() {
+        return within_known::<K, 4>(known, block, places, radius, near);
     }
-    if K::unrolls_places(8) {
-        if let Some(known) = centre.as_array::<8>() {
-            return within_known::<K, 8>(known, block, places, radius, near);
-        }
+    if let Some(known) = centre.as_array::<8>() {
+        return within_known::<K, 8>(known, block, places, radius, near);
     }
-    if K::unrolls_places(16) {
-        if let Some(known) = centre.as_array::<16>() {
-            return within_known::<K, 16>(known, block, places, radius, near);
-        }
+    if let Some(known) = centre.as_array::<16>() {
+        return within_known::<K, 16>(known, block, places, radius, near);
     }
-    if K::unrolls_places(32) {
-        if let Some(known) = centre.as_array::<32>() {
-            return within_known::<K, 32>(known, block, places, radius, near);
-        }
+    if let Some(known) = centre.as_array::<32>() {
+        return within_known::<K, 32>(known, block, places, radius, near);
     }
-    if K::unrolls_places(64) {
-        if let Some(known) = centre.as_array::<64>() {
-            return within_known::<K, 64>(known, block, places, radius, near);
-        }
+    if let Some(known) = centre.as_array::<64>() {
+        return within_known::<K, 64>(known, block, places, radius, near);
     }
-    if K::unrolls_places(128) {
-        if let Some(known) = centre.as_array::<128>() {
-            return within_known::<K, 128>(known, block, places, radius, near);
-        }
+    if let Some(known) = centre.as_array::<128>() {
+        return within_known::<K, 128>(known, block, places, radius, near);
     }
     within_any::<K>(centre, block, places, radius, near)
 }
 
 // At a width that the compiler knows, so that it can unroll the loop of the kernel.
+#[inline(never)]
 fn within_known<K: Kernel, const N: usize>(
     centre: &[u8; N],
     block: &Block,
@@ -144,6 +126,7 @@ fn within_known<K: Kernel, const N: usize>(
 }
 
 // At any other width.
+#[inline(never)]
 fn within_any<K: Kernel>(
     centre: &[u8],
     block: &Block,
@@ -183,49 +166,34 @@ pub(crate) fn within_range<K: Kernel>(
     ensures near { take result near.new ≡ near_rows K.dist centre.now block.now radius rows }
     ensures few { result ≤ rows.end - rows.start }
 {
-    if K::unrolls_range(1) {
-        if let Some(known) = centre.as_array::<1>() {
-            return within_range_known::<K, 1>(known, block, rows, radius, near);
-        }
+    if let Some(known) = centre.as_array::<1>() {
+        return within_range_known::<K, 1>(known, block, rows, radius, near);
     }
-    if K::unrolls_range(2) {
-        if let Some(known) = centre.as_array::<2>() {
-            return within_range_known::<K, 2>(known, block, rows, radius, near);
-        }
+    if let Some(known) = centre.as_array::<2>() {
+        return within_range_known::<K, 2>(known, block, rows, radius, near);
     }
-    if K::unrolls_range(4) {
-        if let Some(known) = centre.as_array::<4>() {
-            return within_range_known::<K, 4>(known, block, rows, radius, near);
-        }
+    if let Some(known) = centre.as_array::<4>() {
+        return within_range_known::<K, 4>(known, block, rows, radius, near);
     }
-    if K::unrolls_range(8) {
-        if let Some(known) = centre.as_array::<8>() {
-            return within_range_known::<K, 8>(known, block, rows, radius, near);
-        }
+    if let Some(known) = centre.as_array::<8>() {
+        return within_range_known::<K, 8>(known, block, rows, radius, near);
     }
-    if K::unrolls_range(16) {
-        if let Some(known) = centre.as_array::<16>() {
-            return within_range_known::<K, 16>(known, block, rows, radius, near);
-        }
+    if let Some(known) = centre.as_array::<16>() {
+        return within_range_known::<K, 16>(known, block, rows, radius, near);
     }
-    if K::unrolls_range(32) {
-        if let Some(known) = centre.as_array::<32>() {
-            return within_range_known::<K, 32>(known, block, rows, radius, near);
-        }
+    if let Some(known) = centre.as_array::<32>() {
+        return within_range_known::<K, 32>(known, block, rows, radius, near);
     }
-    if K::unrolls_range(64) {
-        if let Some(known) = centre.as_array::<64>() {
-            return within_range_known::<K, 64>(known, block, rows, radius, near);
-        }
+    if let Some(known) = centre.as_array::<64>() {
+        return within_range_known::<K, 64>(known, block, rows, radius, near);
     }
-    if K::unrolls_range(128) {
-        if let Some(known) = centre.as_array::<128>() {
-            return within_range_known::<K, 128>(known, block, rows, radius, near);
-        }
+    if let Some(known) = centre.as_array::<128>() {
+        return within_range_known::<K, 128>(known, block, rows, radius, near);
     }
     within_range_any::<K>(centre, block, rows, radius, near)
 }
 
+#[inline(never)]
 fn within_range_known<K: Kernel, const N: usize>(
     centre: &[u8; N],
     block: &Block,
@@ -250,6 +218,7 @@ fn within_range_known<K: Kernel, const N: usize>(
     count
 }
 
+#[inline(never)]
 fn within_range_any<K: Kernel>(
     centre: &[u8],
     block: &Block,
@@ -282,49 +251,34 @@ pub(crate) fn distances<K: Kernel>(centre: &[u8], block: &Block, places: &[u8], 
     requires room { length places.now ≤ length far.old }
     ensures { AreFar K.dist centre.now block.now places.now far.new }
 {
-    if K::unrolls_places(1) {
-        if let Some(known) = centre.as_array::<1>() {
-            return distances_known::<K, 1>(known, block, places, far);
-        }
+    if let Some(known) = centre.as_array::<1>() {
+        return distances_known::<K, 1>(known, block, places, far);
     }
-    if K::unrolls_places(2) {
-        if let Some(known) = centre.as_array::<2>() {
-            return distances_known::<K, 2>(known, block, places, far);
-        }
+    if let Some(known) = centre.as_array::<2>() {
+        return distances_known::<K, 2>(known, block, places, far);
     }
-    if K::unrolls_places(4) {
-        if let Some(known) = centre.as_array::<4>() {
-            return distances_known::<K, 4>(known, block, places, far);
-        }
+    if let Some(known) = centre.as_array::<4>() {
+        return distances_known::<K, 4>(known, block, places, far);
     }
-    if K::unrolls_places(8) {
-        if let Some(known) = centre.as_array::<8>() {
-            return distances_known::<K, 8>(known, block, places, far);
-        }
+    if let Some(known) = centre.as_array::<8>() {
+        return distances_known::<K, 8>(known, block, places, far);
     }
-    if K::unrolls_places(16) {
-        if let Some(known) = centre.as_array::<16>() {
-            return distances_known::<K, 16>(known, block, places, far);
-        }
+    if let Some(known) = centre.as_array::<16>() {
+        return distances_known::<K, 16>(known, block, places, far);
     }
-    if K::unrolls_places(32) {
-        if let Some(known) = centre.as_array::<32>() {
-            return distances_known::<K, 32>(known, block, places, far);
-        }
+    if let Some(known) = centre.as_array::<32>() {
+        return distances_known::<K, 32>(known, block, places, far);
     }
-    if K::unrolls_places(64) {
-        if let Some(known) = centre.as_array::<64>() {
-            return distances_known::<K, 64>(known, block, places, far);
-        }
+    if let Some(known) = centre.as_array::<64>() {
+        return distances_known::<K, 64>(known, block, places, far);
     }
-    if K::unrolls_places(128) {
-        if let Some(known) = centre.as_array::<128>() {
-            return distances_known::<K, 128>(known, block, places, far);
-        }
+    if let Some(known) = centre.as_array::<128>() {
+        return distances_known::<K, 128>(known, block, places, far);
     }
     distances_any::<K>(centre, block, places, far)
 }
 
+#[inline(never)]
 fn distances_known<K: Kernel, const N: usize>(
     centre: &[u8; N],
     block: &Block,
@@ -343,6 +297,7 @@ fn distances_known<K: Kernel, const N: usize>(
     }
 }
 
+#[inline(never)]
 fn distances_any<K: Kernel>(centre: &[u8], block: &Block, places: &[u8], far: &mut [u32])
     requires width { length centre.now ≡ block.now.width }
     requires places { ArePlaces block.now places.now }

@@ -1,3 +1,5 @@
+//! The greatest difference between two vectors' coordinates.
+
 ghost use Rattle.std.specs.Prelude.{◌≡◌, length, refl};
 ghost use Rattle.vec_record.specs.Distance.{most_apart};
 ghost use Rattle.vec_record.specs.declared.kind.MetricKind.TheVariants.{Max as most_kind};
@@ -96,16 +98,6 @@ impl Kernel for Max {
     #[inline(always)]
     fn is_near(a: &[u8], b: &[u8], radius: u32) -> bool {
         greatest_difference(a, b) <= radius
-    }
-
-    #[inline(always)]
-    fn unrolls_places(_width: usize) -> bool {
-        true
-    }
-
-    #[inline(always)]
-    fn unrolls_range(width: usize) -> bool {
-        width <= 8 || width >= 64
     }
 }
 

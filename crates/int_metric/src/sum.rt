@@ -1,3 +1,5 @@
+//! The sum of the differences between two vectors' coordinates.
+
 ghost use Rattle.std.specs.Prelude.{◌≡◌, ◌+◌, ◌*◌, ◌<◌, ◌≤◌, nat_le, length, refl};
 ghost use Rattle.vec_record.specs.Distance.{sum_apart};
 ghost use Rattle.vec_record.specs.declared.kind.MetricKind.TheVariants.{L1 as sum_kind};
@@ -97,16 +99,6 @@ impl Kernel for L1 {
     fn is_near(a: &[u8], b: &[u8], radius: u32) -> bool {
         is_sum_within(a, b, radius)
     }
-
-    #[inline(always)]
-    fn unrolls_places(width: usize) -> bool {
-        width != 32
-    }
-
-    #[inline(always)]
-    fn unrolls_range(width: usize) -> bool {
-        width < 8
-    }
 }
 
 #[inline(always)]
@@ -171,7 +163,7 @@ fn sum_of_rest(a: &[u8], b: &[u8]) -> u32
 
 // The sum over the whole blocks of N bytes, and what is left of both. The compiler has a few vector
 // instructions for a block whose length it knows, and a slow loop for any other.
-#[inline]
+#[inline(always)]
 fn sum_of_blocks<'a, 'b, const N: usize>(
     mut a: &'a [u8],
     mut b: &'b [u8],
@@ -198,7 +190,7 @@ fn sum_of_blocks<'a, 'b, const N: usize>(
 
 // The same of the first block alone, or 0 where there is none. Without a loop the compiler knows that
 // there is at most one.
-#[inline]
+#[inline(always)]
 fn sum_of_one_block<'a, 'b, const N: usize>(a: &'a [u8], b: &'b [u8]) -> (u32, &'a [u8], &'b [u8])
     requires few { N ≤ 512 }
     requires same { length a.now ≡ length b.now }
@@ -213,7 +205,7 @@ fn sum_of_one_block<'a, 'b, const N: usize>(a: &'a [u8], b: &'b [u8]) -> (u32, &
     }
 }
 
-#[inline]
+#[inline(always)]
 fn sum_of_bytes(a: &[u8], b: &[u8]) -> u32
     requires same { length a.now ≡ length b.now }
     requires small { length a.now ≤ 512 }

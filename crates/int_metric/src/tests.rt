@@ -1,3 +1,5 @@
+//! Tests of single distances, against the plain definitions.
+
 ghost use Rattle.std.specs.Prelude.{◌≡◌, ◌<◌, length, IfOk};
 ghost use Rattle.vec_record.specs.Vectors.{IsWidth};
 
