@@ -1,5 +1,5 @@
 -- There are as many clusters as cores that are their own label.
-use Rattle.std.proofs.Common.{◌≡◌, ◌≢◌, ℕ, zero, suc, ◌+◌, ◌<◌, ◌≤◌, Bool, true, false, cond, ◌&&◌, ◌||◌, nat_eq, List, [], ◌∷◌, length, count_by, refl, sym, ap, subst, ◌∙◌, None, Some, is_some, inl, inr, ◌⊎◌, slice_get, get_or, arith}
+use Rattle.std.proofs.Common.{◌≡◌, ℕ, zero, suc, ◌+◌, ◌<◌, ◌≤◌, Bool, true, false, cond, ◌&&◌, ◌||◌, nat_eq, List, [], ◌∷◌, length, count_by, refl, sym, ap, subst, ◌∙◌, None, Some, is_some, inl, inr, slice_get, get_or, arith}
 use Rattle.std.proofs.lemmas.Bool.Decides.{eqb_tells}
 use Rattle.std.proofs.lemmas.Option.{slice_get-get_or}
 use Rattle.std.proofs.lemmas.List.Recursion.{is_count_by}
@@ -9,7 +9,7 @@ use Rattle.std.specs.declared.option.Option.{Option}
 use Rattle.std.specs.declared.cmp.Ordering.{Ordering}
 use Rattle.std.specs.declared.cmp.Ordering.TheVariants.{Less, Equal, Greater}
 use Rattle.std.specs.List.{list_any, IsDistinct}
-use Rattle.std.specs.Ordering.{nat_cmp, eq_by_cmp, is_lt, is_eq}
+use Rattle.std.specs.Ordering.{nat_cmp, is_lt, is_eq}
 use Rattle.std.specs.Cmp.{nat_eq_equiv, unsigned_tied}
 use Rattle.std.specs.FinMap as map
 use Rattle.std.specs.FinMap.Entries.{below_all}
@@ -17,9 +17,9 @@ use lib.Dec.{T}
 use Rattle.slab.specs.Slab as slab
 use Rattle.label_book.specs.declared.cluster.Place.{Place}
 use Rattle.label_book.specs.declared.cluster.Cluster.{Cluster}
-use Rattle.label_book.specs.Labels.{Labels, IsMember, EachOnce, cluster_count}
+use Rattle.label_book.specs.Labels.{IsMember, EachOnce, cluster_count}
 use Rattle.label_book.specs.inside.Kept.{Places, Clusters, Kept, labels_of}
-use Rattle.label_book.proofs.Views.{same_value, no_value, labelled_at, member_labelled, with_label, one_cluster}
+use Rattle.label_book.proofs.Views.{same_value, no_value, member_labelled, with_label, one_cluster}
 
 -- the keys that are their own values
 abbrev pub owned : List (ℕ × ℕ) → List ℕ

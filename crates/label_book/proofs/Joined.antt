@@ -1,16 +1,13 @@
 -- Clusters and cores become one cluster, one after the other.
-use Rattle.std.proofs.Common.{◌≡◌, ◌≢◌, ℕ, zero, suc, ◌+◌, ◌<◌, ◌≤◌, List, [], ◌∷◌, ◌++◌, length, refl, sym, ap, subst, ◌∙◌, cond, None, Some, inl, inr, ◌⊎◌, slice_get, get_or, take, min, arith}
+use Rattle.std.proofs.Common.{◌≡◌, ◌≢◌, ℕ, zero, suc, ◌≤◌, List, [], ◌∷◌, ◌++◌, length, refl, sym, ap, subst, ◌∙◌, cond, None, Some, inl, inr, ◌⊎◌, slice_get, min, arith}
 use Rattle.std.proofs.lemmas.Bool.{cases_eq, cases_lt}
 use Rattle.std.proofs.lemmas.Bool.Decides.{eqb_tells}
-use Rattle.std.proofs.lemmas.List.{take_more, take_all}
-use Rattle.std.proofs.lemmas.Option.{slice_get-get_or}
 use Rattle.std.specs.Option.{option_map}
 use Rattle.std.specs.FinMap as map
-use Rattle.label_book.specs.Labels.{Labels, HasLeast, IsMember, EachOnce, AreFree, AreLabels, HasOneOf, IsJoined, IsLeastOfBoth}
+use Rattle.label_book.specs.Labels.{Labels, HasLeast, IsMember, AreLabels, IsJoined, IsLeastOfBoth}
 use Rattle.label_book.specs.inside.Steps.{IsWith, IsMerged, relabel}
 use Rattle.label_book.proofs.Views.{same_value, no_value, known}
 use Rattle.label_book.proofs.Added.{in_front, at_end, last_or, same_label, other_label}
-use Rattle.label_book.proofs.Founded.{in_whole, next_new}
 
 past : (x : ℕ) (xs : List ℕ) (q : ℕ) → (x ≡ q → ⊥) → (i : ℕ) → slice_get (x ∷ xs) i ≡ Some q → IsMember xs q
 past x xs q ne zero e = absurd (ne (same_value refl e))

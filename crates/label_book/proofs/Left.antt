@@ -1,18 +1,16 @@
 -- The labels after a core left its cluster.
-use Rattle.std.proofs.Common.{◌≡◌, ◌≢◌, ℕ, ◌≤◌, List, [], ◌∷◌, length, refl, sym, ap, subst, ◌∙◌, None, Some, IsSome, IsSomeAnd, is_some, inl, inr, ◌⊎◌, slice_get, arith}
+use Rattle.std.proofs.Common.{◌≡◌, ◌≢◌, ℕ, ◌≤◌, [], refl, sym, ap, subst, ◌∙◌, None, Some, IsSome, IsSomeAnd, is_some, inl, inr, slice_get}
 use Rattle.std.proofs.lemmas.Bool.{cases_eq}
 use Rattle.std.specs.declared.option.Option.{Option}
 use Rattle.std.specs.Option.{option_map}
-use Rattle.std.specs.Ordering.{nat_cmp}
-use Rattle.std.specs.Cmp.{nat_cmp_total}
 use Rattle.std.specs.FinMap as map
 use Rattle.slab.specs.Slab as slab
 use Rattle.label_book.specs.declared.cluster.Place.{Place}
 use Rattle.label_book.specs.declared.cluster.Cluster.{Cluster}
-use Rattle.label_book.specs.Labels.{Labels, IsMember, EachOnce, IsLeastOf}
-use Rattle.label_book.specs.inside.Kept.{Places, Clusters, Kept, ArePlaced, labels_of, label_or, label_at}
+use Rattle.label_book.specs.Labels.{IsMember, IsLeastOf}
+use Rattle.label_book.specs.inside.Kept.{Places, Clusters, Kept, labels_of, label_or, label_at}
 use Rattle.label_book.specs.inside.Steps.{IsTakenOut, IsShorter, IsSettled, IsHeadless, cluster_of}
-use Rattle.label_book.proofs.Views.{same_value, no_value, some_and, known, get_label, labels_same, labelled_at, unlabelled, member_labelled, holds_all, with_label, Stands}
+use Rattle.label_book.proofs.Views.{same_value, no_value, some_and, known, get_label, labels_same, labelled_at, unlabelled, member_labelled, holds_all}
 use Rattle.label_book.proofs.Added.{some_is, lent}
 use Rattle.label_book.proofs.Taken.{some_there, removed_same, removed_other}
 

@@ -9,3 +9,4 @@ pub mod Joining
 pub mod Parted
 pub mod Counting
 pub mod Sorting
+pub mod Checks

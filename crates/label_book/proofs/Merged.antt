@@ -1,18 +1,17 @@
 -- The list of one cluster moves to the end of another's.
-use Rattle.std.proofs.Common.{◌≡◌, ◌≢◌, ℕ, zero, suc, ◌+◌, ◌-◌, ◌<◌, ◌≤◌, Bool, true, false, List, [], ◌∷◌, ◌++◌, length, refl, sym, ap, subst, ◌∙◌, cond, None, Some, IsSome, IsSomeAnd, is_some, inl, inr, ◌⊎◌, slice_get, get_or, set, count_by, min, arith}
+use Rattle.std.proofs.Common.{◌≡◌, ◌≢◌, ℕ, zero, suc, ◌+◌, ◌<◌, ◌≤◌, List, [], ◌∷◌, ◌++◌, length, refl, sym, ap, subst, ◌∙◌, cond, None, Some, IsSome, IsSomeAnd, is_some, inl, inr, ◌⊎◌, slice_get, get_or, min, arith}
 use Rattle.std.proofs.lemmas.Bool.{cases_eq, cases_lt}
 use Rattle.std.proofs.lemmas.Option.{slice_get_within, slice_get-get_or}
-use Rattle.std.specs.declared.option.Option.{Option}
 use Rattle.std.specs.Option.{option_map}
 use Rattle.std.specs.FinMap as map
 use Rattle.slab.specs.Slab as slab
 use Rattle.number_map.specs.Lending.{replaced}
 use Rattle.label_book.specs.declared.cluster.Place.{Place}
 use Rattle.label_book.specs.declared.cluster.Cluster.{Cluster}
-use Rattle.label_book.specs.Labels.{Labels, IsMember, EachOnce, IsLeastOf}
+use Rattle.label_book.specs.Labels.{EachOnce, IsLeastOf}
 use Rattle.label_book.specs.inside.Kept.{Places, Clusters, Kept, labels_of, label_or, label_at}
 use Rattle.label_book.specs.inside.Steps.{IsMerged, IsMergedOf, IsRewritten, StandsFrom, with_members}
-use Rattle.label_book.proofs.Views.{same_value, no_value, some_and, known, get_label, labelled_at, unlabelled, member_labelled, holds_all, stands}
+use Rattle.label_book.proofs.Views.{same_value, no_value, some_and, known, get_label, labelled_at, unlabelled, holds_all}
 use Rattle.label_book.proofs.Added.{some_is, in_front, here, apart, lent}
 use Rattle.label_book.proofs.Taken.{some_there}
 

@@ -1,15 +1,15 @@
 -- A cluster parts: the lists leave it, the groups become clusters, and the rest stays one.
-use Rattle.std.proofs.Common.{◌≡◌, ◌≢◌, ℕ, Bool, true, false, zero, suc, ◌+◌, ◌<◌, ◌≤◌, List, [], ◌∷◌, ◌++◌, length, refl, sym, ap, subst, ◌∙◌, None, Some, IsSome, IsSomeAnd, is_some, inl, inr, ◌⊎◌, slice_get, get_or, take, min, arith, length-take}
+use Rattle.std.proofs.Common.{◌≡◌, ◌≢◌, ℕ, Bool, true, false, zero, suc, ◌+◌, ◌<◌, List, [], ◌∷◌, ◌++◌, length, refl, sym, ap, subst, ◌∙◌, None, Some, IsSome, IsSomeAnd, is_some, inl, inr, ◌⊎◌, slice_get, get_or, take, min, arith, length-take}
 use Rattle.std.proofs.lemmas.Bool.{cases_eq}
 use Rattle.std.proofs.lemmas.List.{take_more}
 use Rattle.std.proofs.lemmas.Option.{slice_get_read, slice_get_within}
 use Rattle.std.specs.declared.option.Option.{Option}
 use Rattle.std.specs.FinMap as map
-use Rattle.label_book.specs.Labels.{Labels, HasLeast, IsMember, EachOnce, IsLeastOf, AreFree, IsFounded}
-use Rattle.label_book.specs.Parting.{IsGrouped, AreApart, IsParting, IsRest, IsLeastRest, IsParted, HasNow, AreNewLabels}
+use Rattle.label_book.specs.Labels.{Labels, HasLeast, IsMember, EachOnce, IsLeastOf, IsFounded}
+use Rattle.label_book.specs.Parting.{IsGrouped, AreApart, IsParting, IsRest, IsLeastRest, IsParted, AreNewLabels}
 use Rattle.label_book.specs.inside.Steps.{IsHeadless, IsWithout, IsWithoutGroups, IsCleared, AreFounded, IsOneFounded}
 use Rattle.label_book.proofs.Views.{same_value, no_value, known, some_and}
-use Rattle.label_book.proofs.Added.{some_is, in_front, at_end, last_or}
+use Rattle.label_book.proofs.Added.{some_is, last_or}
 use Rattle.label_book.proofs.Taken.{removed_same, removed_other}
 use Rattle.label_book.proofs.Joined.{member_or, pushed, pushed_old, pushed_new}
 

@@ -1,9 +1,8 @@
 -- A core leaves the list of its cluster, and the last one takes its place.
-use Rattle.std.proofs.Common.{◌≡◌, ◌≢◌, ℕ, ◌+◌, ◌-◌, ◌<◌, List, [], ◌∷◌, length, refl, sym, ap, subst, ◌∙◌, cond, is_some, None, Some, IsSome, IsSomeAnd, inl, inr, ◌⊎◌, slice_get, get_or, arith}
+use Rattle.std.proofs.Common.{◌≡◌, ◌≢◌, ℕ, ◌+◌, ◌-◌, ◌<◌, List, length, refl, sym, ap, subst, ◌∙◌, cond, is_some, None, Some, IsSome, IsSomeAnd, inl, inr, ◌⊎◌, slice_get, get_or, arith}
 use Rattle.std.proofs.lemmas.Bool.{cases_eq, cases_lt}
 use Rattle.std.proofs.lemmas.Option.{slice_get_within, slice_get-get_or, get_or_from_slice_get}
 use Rattle.std.specs.declared.option.Option.{Option}
-use Rattle.std.specs.Option.{option_map}
 use Rattle.std.specs.Ordering.{nat_cmp}
 use Rattle.std.specs.Cmp.{nat_cmp_total}
 use Rattle.std.specs.FinMap as map
@@ -11,10 +10,10 @@ use Rattle.slab.specs.Slab as slab
 use Rattle.number_map.specs.Lending.{replaced}
 use Rattle.label_book.specs.declared.cluster.Place.{Place}
 use Rattle.label_book.specs.declared.cluster.Cluster.{Cluster}
-use Rattle.label_book.specs.Labels.{Labels, IsMember, EachOnce, IsLeastOf}
-use Rattle.label_book.specs.inside.Kept.{Places, Clusters, Kept, ArePlaced, labels_of, label_or, label_at}
-use Rattle.label_book.specs.inside.Steps.{IsSwappedOut, IsTakenOut, IsShorter, IsSettled, IsHeadless, cluster_of}
-use Rattle.label_book.proofs.Views.{same_value, no_value, some_and, known, get_label, labels_same, labelled_at, unlabelled, member_labelled, holds_all, with_label}
+use Rattle.label_book.specs.Labels.{EachOnce}
+use Rattle.label_book.specs.inside.Kept.{Places, Clusters, Kept, ArePlaced}
+use Rattle.label_book.specs.inside.Steps.{IsSwappedOut, IsTakenOut, IsShorter, cluster_of}
+use Rattle.label_book.proofs.Views.{same_value, no_value, some_and, known}
 use Rattle.label_book.proofs.Added.{some_is, here, apart, tied, untied, lent}
 
 -- the value is there or it isn't

@@ -1,5 +1,5 @@
 -- What a label book is, and what founding and joining clusters change.
-use Rattle.std.specs.Prelude.{◌≡◌, ℕ, ◌≤◌, ◌⊎◌, List, length, count_by, nat_eq, None, Some, slice_get}
+use Rattle.std.specs.Prelude.{◌≡◌, ◌≢◌, ℕ, ◌≤◌, ◌⊎◌, List, count_by, nat_eq, None, Some, slice_get}
 use Rattle.std.specs.Ordering.{nat_cmp}
 use Rattle.std.specs.FinMap as map
 
@@ -23,6 +23,10 @@ EachOnce members = (i j core : ℕ) → slice_get members i ≡ Some core → sl
 pub record AreMembers (m : Labels) (label : ℕ) (members : List ℕ) : Type 0 where
   pub exact : (core : ℕ) → (IsMember members core → map.get m core ≡ Some label) × (map.get m core ≡ Some label → IsMember members core)
   pub once : EachOnce members
+
+-- No core has this label.
+abbrev pub HasNoMember : Labels → ℕ → Type 0
+HasNoMember m label = (core : ℕ) → map.get m core ≢ Some label
 
 -- The label stands in the list, and nothing in the list is less.
 abbrev pub IsLeastOf : ℕ → List ℕ → Type 0

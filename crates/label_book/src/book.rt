@@ -2,7 +2,7 @@
 
 ghost use Rattle.std.specs.Prelude.{◌≡◌, ◌↔◌, None, Some, IsSome, IfSome};
 ghost use Rattle.std.specs.FinMap as map;
-ghost use Rattle.label_book.specs.Labels.{HasLeast, AreMembers, cluster_count};
+ghost use Rattle.label_book.specs.Labels.{HasLeast, AreMembers, HasNoMember, cluster_count};
 
 use crate::cluster::{Cluster, Place};
 use number_map::NumberMap;
@@ -66,6 +66,7 @@ impl LabelBook {
     pub fn members(&self, label: Number) -> Option<&Numbers>
         ensures some { IsSome result ↔ (map.get self.now label ≡ Some label) }
         ensures exact { IfSome result (λ m. AreMembers self.now label m.now) }
+        ensures none { result ≡ None → HasNoMember self.now label }
     {
         match self.places.get(label) {
             Some(place) => match self.clusters.get(place.cluster) {

@@ -37,7 +37,6 @@ impl LabelBook {
     pub fn join(&mut self, labels: &Numbers, cores: &Numbers) -> Result<Number, AllocError>
         requires some { 0 < length labels.now }
         requires labels { AreLabels self.old labels.now }
-        requires labels_once { EachOnce labels.now }
         requires cores_once { EachOnce cores.now }
         requires free { AreFree self.old cores.now }
         ensures label { IfOk result (λ l. IsLeastOfBoth l labels.now cores.now) }

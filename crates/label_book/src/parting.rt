@@ -160,14 +160,14 @@ fn rising(numbers: Numbers) -> Numbers
 }
 
 // True exactly where the core stands in the list.
-fn is_among(cores: &[Number], core: Number) -> bool
+pub(crate) fn is_among(cores: &[Number], core: Number) -> bool
     ensures { IsTrue result ↔ IsMember cores.now core }
 {
     cores.contains(&core)
 }
 
 // True exactly where the core stands in one of the groups.
-fn stands_in(groups: &[Numbers], core: Number) -> bool
+pub(crate) fn stands_in(groups: &[Numbers], core: Number) -> bool
     ensures { IsTrue result ↔ IsGrouped groups.now core }
 {
     for i in 0..groups.len() {

@@ -1,4 +1,4 @@
-use Rattle.std.proofs.Common.{sym, subst}
+use Rattle.std.proofs.Common.{subst}
 use Rattle.label_book.specs.Labels.{IsMember}
 use Rattle.label_book.specs.inside.Steps.{IsWithout}
 use Rattle.label_book.proofs.Parted.{group_members, group_left}

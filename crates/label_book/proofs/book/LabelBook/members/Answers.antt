@@ -1,5 +1,5 @@
 use Rattle.std.proofs.Common.{◌∙◌, Some, sym, ap, refl}
-use Rattle.label_book.proofs.Views.{labelled_at, unlabelled, must_stand, no_value, same_value, member_labelled, holds_all, each_once}
+use Rattle.label_book.proofs.Views.{labelled_at, unlabelled, must_stand, no_value, same_value, member_labelled, holds_all, each_once, has_least}
 use Rattle.label_book.proofs.book.LabelBook.members.Goals as goal
 
 pub returns-then-cluster-label-clause-some : goal.returns-then-cluster-label-clause-some
@@ -32,3 +32,17 @@ pub returns-in-None-clause-some : goal.returns-in-None-clause-some
 returns-in-None-clause-some c =
     let none = unlabelled c.self.inside.places c.self.inside.clusters c.args.label (sym c.in-None.ensures) in
     rw (← c.self.view_is) (λ f. absurd (cc), λ h. absurd (no_value none h))
+
+pub returns-else-cluster-label-clause-none : goal.returns-else-cluster-label-clause-none
+returns-else-cluster-label-clause-none c =
+    let has = labelled_at c.self.inside.places c.self.inside.clusters c.args.label c.in-Some.place.now c.in-Some-get.cluster.now (sym c.in-Some.ensures) (sym c.in-Some-get.ensures) in
+    rw (← c.self.view_is) (λ _ core h. c.if-cluster-label.false (same_value has (has_least c.self.inside.places c.self.inside.clusters c.self.invariant core c.args.label h).1))
+
+pub returns-in-None-get-clause-none : goal.returns-in-None-get-clause-none
+returns-in-None-get-clause-none c =
+    absurd (must_stand c.self.inside.places c.self.inside.clusters c.self.invariant c.args.label c.in-Some.place.now (sym c.in-Some.ensures) (sym c.in-None-get.ensures))
+
+pub returns-in-None-clause-none : goal.returns-in-None-clause-none
+returns-in-None-clause-none c =
+    let none = unlabelled c.self.inside.places c.self.inside.clusters c.args.label (sym c.in-None.ensures) in
+    rw (← c.self.view_is) (λ _ core h. no_value none (has_least c.self.inside.places c.self.inside.clusters c.self.invariant core c.args.label h).1)

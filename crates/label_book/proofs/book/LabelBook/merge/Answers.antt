@@ -1,7 +1,6 @@
 use Rattle.std.proofs.Common.{◌∙◌, length, refl, ap, subst}
 use Rattle.std.specs.FinMap as map
 use Rattle.slab.specs.Slab.{with_value}
-use Rattle.label_book.specs.Labels.{EachOnce}
 use Rattle.label_book.specs.inside.Kept.{labels_of}
 use Rattle.label_book.specs.inside.Steps.{IsMergedOf, IsRewritten, StandsFrom}
 use Rattle.label_book.proofs.Added.{kept_alike, labels_alike}
