@@ -1,4 +1,4 @@
-//! Tables of counts that cross `minpts`, and of anchors that are offered.
+//! Tables of counts that cross `minpts`, and of anchors that are offered, and a book that grows.
 
 ghost use Rattle.std.specs.Prelude.{IsSome, IfOk};
 ghost use Rattle.std.specs.FinMap as map;
@@ -71,5 +71,34 @@ fn a_number_leaves_once(rt: HostRuntime) -> Result<(), Fail> {
     assert_eq!(rt; book.count_of(7), None);
     assert_eq!(rt; book.anchor_of(7), None);
     assert!(rt; !book.is_core(7));
+    Ok(())
+}
+
+// Enters an absent number with itself as count. False where it is there, or where memory is wanting.
+fn enter(book: &mut CountBook, number: Number) -> bool {
+    match book.count_of(number) {
+        Some(_) => false,
+        None => book.enter(number, number, None).is_ok(),
+    }
+}
+
+// Whether the numbers from 1 to the last are there with their counts, and the next one isn't.
+fn has_up_to(book: &CountBook, last: Number) -> bool {
+    for number in 1..=last {
+        if book.count_of(number) != Some(number) {
+            return false;
+        }
+    }
+    book.count_of(last.saturating_add(1)).is_none()
+}
+
+// Where one request for memory is refused, the number is absent and can be entered again.
+#[test]
+fn a_book_grows_and_loses_nothing(rt: HostRuntime) -> Result<(), Fail> {
+    let mut book = CountBook::new(rt.alloc(), 3);
+    for number in 1..60u32 {
+        assert!(rt; enter(&mut book, number) || enter(&mut book, number));
+        assert!(rt; has_up_to(&book, number));
+    }
     Ok(())
 }
