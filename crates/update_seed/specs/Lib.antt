@@ -1,0 +1,5 @@
+pub mod Books
+pub mod Price
+pub mod Groups
+pub mod Offers
+pub mod inside
