@@ -8,3 +8,4 @@ pub mod Cases
 pub mod Across
 pub mod Index
 pub mod Change
+pub mod Asked

@@ -5,3 +5,4 @@ pub mod Heads
 pub mod Classes
 pub mod Linked
 pub mod Clusters
+pub mod Rows

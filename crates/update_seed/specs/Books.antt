@@ -20,12 +20,17 @@ near_in dist eps records = is_near (density dist eps 1) (map.entries records.vec
 abbrev pub all_near : (List ℕ → List ℕ → ℕ) → ℕ → Held → ℕ → List ℕ
 all_near dist eps records a = near_of (density dist eps 1) (map.entries records.vectors) a
 
--- The books have the form that books of these records have: counts for exactly the records, each at
--- least 1, no anchor at a core, and labels for exactly the cores, each the least of its members.
-pub record Fit (records : Rows) (counts : Counted) (labels : Labels) : Type 0 where
-  pub numbers : (a : ℕ) → is_some (map.get counts.rows a) ≡ is_some (map.get records a)
+-- The index holds the records, and the books have the form that books of these records have: counts
+-- for exactly the records, each at least 1, no anchor at a core, and labels for exactly the cores by
+-- these counts, each the least of its members.
+pub record Fits
+    (width : ℕ) (contents : Rows) (records : Held) (counts : Counted) (labels : Labels) : Type 0 where
+  pub held : IsHeld width contents records
+  pub numbers : (a : ℕ) → is_some (map.get counts.rows a) ≡ is_some (map.get records.vectors a)
   pub counted : (a : ℕ) (r : Row) → map.get counts.rows a ≡ Some r → 1 ≤ r.count
-  pub unhung : (a : ℕ) (r : Row) → map.get counts.rows a ≡ Some r → counts.minpts ≤ r.count → r.anchor ≡ None
+  pub unhung :
+      (a : ℕ) (r : Row) → map.get counts.rows a ≡ Some r → counts.minpts ≤ r.count
+      → r.anchor ≡ None
   pub labelled : (a : ℕ) → IsSome (map.get labels a) ↔ IsCore counts a
   pub least : HasLeast labels
 
@@ -42,8 +47,10 @@ label_due d es a = if is_core d es a then Some (cluster_of d es a) else None
 abbrev pub AreLabelsDue : Density → Entries → Labels → Type 0
 AreLabelsDue d es labels = (a : ℕ) → map.get labels a ≡ label_due d es a
 
--- The books fit the records, and each count, anchor and label is the one that is due.
-pub record StandFor (d : Density) (records : Rows) (counts : Counted) (labels : Labels) : Type 0 where
-  pub fit : Fit records counts labels
-  pub rows : (a : ℕ) → map.get counts.rows a ≡ row_due d (map.entries records) records a
-  pub labels_due : AreLabelsDue d (map.entries records) labels
+-- All fits, and each count, anchor and label is the one that is due.
+pub record StandsFor
+    (d : Density) (width : ℕ) (contents : Rows) (records : Held) (counts : Counted)
+    (labels : Labels) : Type 0 where
+  pub fits : Fits width contents records counts labels
+  pub rows : (a : ℕ) → map.get counts.rows a ≡ row_due d (map.entries records.vectors) records.vectors a
+  pub labels_due : AreLabelsDue d (map.entries records.vectors) labels
