@@ -9,6 +9,9 @@ pub mod PointsOf
 pub mod Merging
 pub mod Places
 pub mod Packed
+pub mod SizesOf
+pub mod RootsOf
+pub mod LabelsOf
 pub mod Bounds
 pub mod MarksOf
 pub mod CasesOf

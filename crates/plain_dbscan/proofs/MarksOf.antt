@@ -1,7 +1,8 @@
 -- The marks of points, by their cores and the labels of these.
-use Rattle.std.proofs.Common.{◌≡◌, ◌≢◌, ℕ, ◌+◌, ◌<◌, ◌≤◌, Bool, true, false, cond, List, [], ◌∷◌, ◌++◌, length, get_or, map, take, filter, position, IsTrue, Option, None, Some, refl, sym, ap, subst, ◌∙◌, inl, inr, arith}
+use Rattle.std.proofs.Common.{◌≡◌, ℕ, ◌+◌, ◌<◌, ◌≤◌, Bool, true, false, cond, List, [], ◌∷◌, ◌++◌, length, get_or, map, take, filter, position, count_by, IsTrue, Option, None, Some, refl, sym, ap, subst, ◌∙◌, inl, inr, arith}
 use lib.Dec.{T}
-use Rattle.std.specs.List.{All}
+use Rattle.std.specs.Prelude.{nat_le, nat_lt}
+use Rattle.std.specs.List.{All, position_or_len}
 use Rattle.std.specs.Ordering.{nat_cmp}
 use Rattle.std.specs.declared.cmp.Ordering.TheVariants.{Equal}
 use Rattle.std.specs.Option.{is_some}
@@ -11,20 +12,22 @@ use Rattle.std.proofs.lemmas.Bool.Decides.{nat_tests}
 use Rattle.std.proofs.lemmas.List.{get_or-map, get_or_default, length-map, map-append, take_more}
 use Rattle.std.proofs.lemmas.List.Sums.{length-filter, count_by-le-length}
 use Rattle.std.proofs.lemmas.List.Filters.{length-filter_more}
-use Rattle.std.proofs.lemmas.List.Elements.{All-filter, filter_passes}
+use Rattle.std.proofs.lemmas.List.Elements.{All-filter}
 use Rattle.std.proofs.lemmas.List.Quantifiers.{position-Some}
 use Rattle.plain_dbscan.specs.declared.points.Point.{Point}
 use Rattle.plain_dbscan.specs.declared.marks.Mark.{Mark}
-use Rattle.plain_dbscan.specs.declared.marks.Mark.TheVariants.{Core, Border}
+use Rattle.plain_dbscan.specs.declared.marks.Mark.TheVariants.{Core, Border, Noise}
 use Rattle.plain_dbscan.specs.Chains.{IsLabel}
-use Rattle.plain_dbscan.specs.Marks.{Entries, numbers_of, Density, density, is_near, is_core, cores_of, cluster_of, anchor_of, outer_mark, mark_of}
-use Rattle.plain_dbscan.specs.Points.{entries_of, IsOfWidth, AreOfWidth, is_close, is_core_point, mark_by_place}
+use Rattle.plain_dbscan.specs.Marks.{Entries, numbers_of, Density, density, is_near, near_of, size_of, is_core, cores_of, cluster_of, anchor_of, outer_mark, mark_of}
+use Rattle.plain_dbscan.specs.Points.{entries_of, IsOfWidth, AreOfWidth, ArePacked, is_close, is_near_row, is_core_point, mark_by_place}
+use Rattle.vec_record.specs.Table.{Table}
 use Rattle.plain_dbscan.specs.Merging.{is_there, AreLabels}
-use Rattle.plain_dbscan.proofs.Chains.{label_kept, first_of_both}
-use Rattle.plain_dbscan.proofs.Members.{find_at, find_none, same_list}
-use Rattle.plain_dbscan.proofs.CoresOf.{is_cluster, other_anchor, core_mark, other_mark}
-use Rattle.plain_dbscan.proofs.PointsOf.{IsIn, all_in, is_in, number_read, near_by_vectors, numbers_filtered}
+use Rattle.plain_dbscan.proofs.Chains.{Member, label_kept, first_of_both}
+use Rattle.plain_dbscan.proofs.Members.{find_at, find_none, same_list, member_filter}
+use Rattle.plain_dbscan.proofs.CoresOf.{is_cluster, other_anchor, core_mark, other_mark, none_anchor, among}
+use Rattle.plain_dbscan.proofs.PointsOf.{IsIn, all_in, is_in, number_read, near_by_vectors, size_by_vectors, numbers_filtered}
 use Rattle.plain_dbscan.proofs.Places.{none_passes, is_next}
+use Rattle.plain_dbscan.proofs.SizesOf.{none_above}
 
 tied_same : (x y : ℕ) → nat_cmp x y ≡ Equal → x ≡ y
 tied_same x y h = grind (arith, nat_tests)
@@ -93,6 +96,24 @@ marks_more f numbers i a m marks h at is so_far =
     ∙ sym (map-append (λ (x : ℕ). (x, f x)) (take i numbers) (get_or numbers i 0 ∷ []))
     ∙ ap (map (λ (x : ℕ). (x, f x))) (sym (take_more numbers i 0 h))
 
+-- the two members of a list of one are one
+single : (xs : List ℕ) (a c : ℕ) → length xs ≡ 1 → Member a xs → Member c xs → a ≡ c
+single [] a c one ma mc = absurd ma
+single (x ∷ []) a c one (inl ea) (inl ec) = ea ∙ sym ec
+single (x ∷ []) a c one (inl ea) (inr mc) = absurd mc
+single (x ∷ []) a c one (inr ma) mc = absurd ma
+single (x ∷ y ∷ xs) a c one ma mc = absurd (omega (arith, one))
+
+-- the first that passes among what a function makes of elements
+place_map : {X Y : Type 0} (p : Y → Bool) (f : X → Y) (xs : List X) → position_or_len p (map f xs) ≡ position_or_len (λ x. p (f x)) xs
+place_map p f [] = refl
+place_map p f (x ∷ xs) = simp (place_map p f xs)
+
+position_map : {X Y : Type 0} (p : Y → Bool) (f : X → Y) (xs : List X) → position p (map f xs) ≡ position (λ x. p (f x)) xs
+position_map p f xs =
+    ap (λ (n : ℕ). cond (nat_lt n (length (map f xs))) (Some n) None) (place_map p f xs)
+    ∙ ap (λ (m : ℕ). cond (nat_lt (position_or_len (λ x. p (f x)) xs) m) (Some (position_or_len (λ x. p (f x)) xs)) None) (length-map xs f)
+
 module _ (d : Density) (points cores : List Point) (labels : List ℕ) (sorted : T (is_sorted nat_cmp (entries_of points)))
     (cores_are : cores ≡ filter (is_core_point d (entries_of points)) points) (labels_are : labels ≡ map (cluster_of d (entries_of points)) (cores_of d (entries_of points))) where
   abbrev rows : Entries
@@ -114,16 +135,23 @@ module _ (d : Density) (points cores : List Point) (labels : List ℕ) (sorted :
   cores_in : All (IsIn rows) cores
   cores_in = subst (All (IsIn rows)) (sym cores_are) (All-filter (is_core_point d rows) (IsIn rows) points (all_in points sorted))
 
-  -- a point that is the next core
-  met_core : (j : ℕ) (p q : Point) → j < length cores → q ≡ get_or cores j q → q.number ≡ p.number → is_core d rows p.number ≡ true
-  met_core j p q h is same =
-      let passes : All (λ (x : Point). is_core_point d rows x ≡ true) cores = subst (All (λ (x : Point). is_core_point d rows x ≡ true)) (sym cores_are) (filter_passes (is_core_point d rows) points) in
-      let here : is_core d rows (get_or cores j q).number ≡ true = passes j q h in
-      ap (is_core d rows) (sym same ∙ ap (λ (x : Point). x.number) is) ∙ here
+  -- the mark of a point that is a core, by the label at the place after those of the cores before it
+  pub met_mark : (i j : ℕ) (p : Point) → i < length points → p ≡ get_or points i p → is_core d rows p.number ≡ true → j ≡ length (filter (is_core d rows) (take i (numbers_of rows))) → Core (get_or labels j 0) ≡ mark_of d rows p.number
+  met_mark i j p h is core at =
+      let lt : i < length (numbers_of rows) = simp length-map h in
+      let number = number_read points i p h is in
+      let next = is_next (is_core d rows) (numbers_of rows) i lt (ap (is_core d rows) number ∙ core) in
+      let label : get_or labels j 0 ≡ cluster_of d rows p.number =
+      ap (λ (xs : List ℕ). get_or xs j 0) labels_are
+      ∙ get_or-map (cluster_of d rows) (cores_of d rows) j 0 0 (omega (arith, at, next.below))
+      ∙ ap (cluster_of d rows) (ap (λ (k : ℕ). get_or (cores_of d rows) k 0) at ∙ next.is ∙ number) in
+      ap Core label ∙ sym (core_mark d rows p.number core)
 
-  pub met_mark : (j : ℕ) (p q : Point) → j < length cores → q ≡ get_or cores j q → q.number ≡ p.number → Core (get_or labels j 0) ≡ mark_of d rows p.number
-  met_mark j p q h is same =
-      ap Core (label_at j q h is ∙ ap (cluster_of d rows) same) ∙ sym (core_mark d rows p.number (met_core j p q h is same))
+  pub met_below : (i j : ℕ) (p : Point) → i < length points → p ≡ get_or points i p → is_core d rows p.number ≡ true → j ≡ length (filter (is_core d rows) (take i (numbers_of rows))) → j < length labels
+  met_below i j p h is core at =
+      let lt : i < length (numbers_of rows) = simp length-map h in
+      let next = is_next (is_core d rows) (numbers_of rows) i lt (ap (is_core d rows) (number_read points i p h is) ∙ core) in
+      omega (arith, at, next.below, ap length labels_are, length-map (cores_of d rows) (cluster_of d rows))
 
   -- how many cores are met after one point more
   more_met : (i : ℕ) (p : Point) (b : Bool) → i < length points → p ≡ get_or points i p → is_core d rows p.number ≡ b → length (filter (is_core d rows) (take (i + 1) (numbers_of rows))) ≡ length (filter (is_core d rows) (take i (numbers_of rows))) + cond b 1 0
@@ -131,22 +159,8 @@ module _ (d : Density) (points cores : List Point) (labels : List ℕ) (sorted :
       let lt : i < length (numbers_of rows) = simp length-map h in
       length-filter_more (is_core d rows) (numbers_of rows) i 0 lt ∙ ap (λ (v : Bool). length (filter (is_core d rows) (take i (numbers_of rows))) + cond v 1 0) (ap (is_core d rows) (number_read points i p h is) ∙ core)
 
-  pub next_met : (i j : ℕ) (p q : Point) → i < length points → p ≡ get_or points i p → j < length cores → q ≡ get_or cores j q → q.number ≡ p.number → j ≡ length (filter (is_core d rows) (take i (numbers_of rows))) → j + 1 ≡ length (filter (is_core d rows) (take (i + 1) (numbers_of rows)))
-  next_met i j p q h is hj qj same at = omega (arith, at, more_met i p true h is (met_core j p q hj qj same))
-
-  -- a point that is not the next core
-  pub unmet : (i j : ℕ) (p : Point) → i < length points → p ≡ get_or points i p → j ≡ length (filter (is_core d rows) (take i (numbers_of rows))) → (j < length cores → get_or (numbers_of (entries_of cores)) j 0 ≢ p.number) → is_core d rows p.number ≡ false
-  unmet i j p h is at apart = elim (cases_Bool (is_core d rows p.number)) [
-    | inl core ↦
-        let lt : i < length (numbers_of rows) = simp length-map h in
-        let number = number_read points i p h is in
-        let next = is_next (is_core d rows) (numbers_of rows) i lt (ap (is_core d rows) number ∙ core) in
-        let below : j < length cores = omega (arith, at, next.below, count_cores) in
-        let here : get_or (numbers_of (entries_of cores)) j 0 ≡ p.number =
-        ap (λ (xs : List ℕ). get_or xs j 0) core_numbers ∙ ap (λ (k : ℕ). get_or (cores_of d rows) k 0) at ∙ next.is ∙ number in
-        absurd (apart below here)
-    | inr other ↦ other
-  ]
+  pub next_met : (i j : ℕ) (p : Point) → i < length points → p ≡ get_or points i p → is_core d rows p.number ≡ true → j ≡ length (filter (is_core d rows) (take i (numbers_of rows))) → j + 1 ≡ length (filter (is_core d rows) (take (i + 1) (numbers_of rows)))
+  next_met i j p h is core at = omega (arith, at, more_met i p true h is core)
 
   pub next_unmet : (i j : ℕ) (p : Point) → i < length points → p ≡ get_or points i p → is_core d rows p.number ≡ false → j ≡ length (filter (is_core d rows) (take i (numbers_of rows))) → j ≡ length (filter (is_core d rows) (take (i + 1) (numbers_of rows)))
   next_unmet i j p h is off at = omega (arith, at, more_met i p false h is off)
@@ -172,6 +186,29 @@ module _ (d : Density) (points cores : List Point) (labels : List ℕ) (sorted :
 
   pub unmet_mark : (i : ℕ) (p : Point) → i < length points → p ≡ get_or points i p → is_core d rows p.number ≡ false → mark_by_place labels (position (is_close d.dist d.eps p.vector.now) cores) ≡ mark_of d rows p.number
   unmet_mark i p h is off = outer_by_place p (is_in points i p sorted h is) off (position (is_close d.dist d.eps p.vector.now) cores) refl ∙ sym (other_mark d rows p.number off)
+
+  -- the same where the vectors of the cores are rows of a block
+  pub packed_mark : (t : Table) → ArePacked cores t → (i : ℕ) (p : Point) → i < length points → p ≡ get_or points i p → is_core d rows p.number ≡ false → mark_by_place labels (position (is_near_row d.dist d.eps p.vector.now) t.rows) ≡ mark_of d rows p.number
+  packed_mark t packed i p h is off =
+      ap (mark_by_place labels) (ap (position (is_near_row d.dist d.eps p.vector.now)) packed.rows ∙ position_map (is_near_row d.dist d.eps p.vector.now) (λ (q : Point). q.vector.now) cores)
+      ∙ unmet_mark i p h is off
+
+  -- a point that is near itself alone is noise where it is no core
+  pub lone_mark : (i : ℕ) (p : Point) → i < length points → p ≡ get_or points i p → is_core d rows p.number ≡ false → d.dist p.vector.now p.vector.now ≡ 0 → count_by (is_close d.dist d.eps p.vector.now) points ≡ 1 → Noise ≡ mark_of d rows p.number
+  lone_mark i p h is off itself one =
+      let inside = is_in points i p sorted h is in
+      let size : size_of d rows p.number ≡ 1 = size_by_vectors d points p sorted inside ∙ one in
+      let near : IsTrue (is_near d rows p.number p.number) = near_by_vectors d rows p p inside inside ∙ ap (λ (n : ℕ). nat_le n d.eps) itself ∙ none_above d.eps in
+      let there_p : Member p.number (numbers_of rows) = among rows p.number (ap is_some inside) in
+      let mine = member_filter (is_near d rows p.number) (numbers_of rows) p.number there_p near in
+      sym (other_mark d rows p.number off ∙ ap (outer_mark d rows) (none_anchor d rows p.number off (λ c core. elim (cases_Bool (is_near d rows p.number c)) [
+        | inl close ↦
+            let theirs = member_filter (is_near d rows p.number) (numbers_of rows) c (among rows c (first_of_both _ _ core)) close in
+            let same : p.number ≡ c = single (near_of d rows p.number) p.number c size mine theirs in
+            let both_ways : false ≡ true = sym off ∙ ap (is_core d rows) same ∙ core in
+            absurd (cc)
+        | inr apart ↦ apart
+      ])))
 
 -- the cores among points: their vectors, their order and how many they are
 pub same_width : (w : ℕ) (cores : List Point) (p : Point) → AreOfWidth w cores → IsOfWidth w p → AreOfWidth (length p.vector.now) cores

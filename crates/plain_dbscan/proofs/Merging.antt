@@ -1,13 +1,16 @@
--- Labels that merge where cores are near each other.
-use Rattle.std.proofs.Common.{◌≡◌, ◌≢◌, ℕ, ◌+◌, ◌<◌, ◌≤◌, List, [], ◌∷◌, length, get_or, map, max, min, IsTrue, sym, ap, subst, ◌∙◌, inl, inr, arith}
+-- Roots that merge where cores are near each other.
+use Rattle.std.proofs.Common.{◌≡◌, ◌≢◌, ℕ, zero, suc, ◌+◌, ◌<◌, ◌≤◌, List, [], ◌∷◌, length, get_or, map, max, min, IsTrue, sym, ap, subst, ◌∙◌, inl, inr, arith}
 use Rattle.std.proofs.lemmas.Bool.{cases_eq, cases_lt}
 use Rattle.std.proofs.lemmas.Bool.Decides.{nat_tests}
+use Rattle.std.specs.List.{range_with_len, AllByRecursion}
 use Rattle.std.proofs.lemmas.List.{get_or-map, length-map}
-use Rattle.plain_dbscan.specs.Chains.{IsChain, Joined}
+use Rattle.std.proofs.lemmas.List.FromFn.{length-range_with_len, get_or-range_with_len}
+use Rattle.plain_dbscan.specs.Chains.{IsChain, Joined, IsLabel}
 use Rattle.plain_dbscan.specs.Marks.{Density, Entries, numbers_of, is_near}
 use Rattle.plain_dbscan.specs.Merging.{relabelled, merged, is_there, AreLowered, AgreesBefore, AgreeBelow, AreLabels}
-use Rattle.plain_dbscan.proofs.Chains.{chain_start, joined_start, joined_near, joined_on, joined_back, joined_itself}
-use Rattle.plain_dbscan.proofs.Members.{member_at, place_of}
+use Rattle.plain_dbscan.specs.inside.Roots.{joined_pair, joined_each}
+use Rattle.plain_dbscan.proofs.Chains.{Member, chain_start, joined_start, joined_near, joined_on, joined_back, joined_itself}
+use Rattle.plain_dbscan.proofs.Members.{Rises, member_at, place_of}
 use Rattle.plain_dbscan.proofs.CoresOf.{there, among}
 
 pub relabelled_here : (from to l : ℕ) → l ≡ from → relabelled from to l ≡ to
@@ -29,13 +32,26 @@ merged_right a b = elim (cases_eq b (max a b)) [
   | inr h ↦ relabelled_other (max a b) (min a b) b h ∙ omega arith
 ]
 
+-- numbers that rise, by place
+rise : (xs : List ℕ) → Rises xs → (i j : ℕ) → i ≤ j → j < length xs → get_or xs i 0 ≤ get_or xs j 0
+rise [] r i j le h = absurd (omega arith)
+rise (x ∷ xs) r zero zero le h = omega arith
+rise (x ∷ xs) r zero (suc j) le h = omega (arith, r.0 _ (member_at xs j (omega arith)))
+rise (x ∷ xs) r (suc i) zero le h = absurd (omega arith)
+rise (x ∷ xs) r (suc i) (suc j) le h = rise xs r.1 i j (omega arith) (omega arith)
+
 module _ (d : Density) (es : Entries) where
-  -- each core begins with its own number
-  pub lowered_first : AreLowered d es (numbers_of es)
+  abbrev num : ℕ → ℕ
+  num i = get_or (numbers_of es) i 0
+
+  -- each core begins as its own root
+  pub lowered_first : AreLowered d es (range_with_len 0 (length es))
   lowered_first = record {
-    lengths = simp length-map;
-    joined = λ i h. joined_itself (is_there es) (is_near d es) _ (there es _ (member_at (numbers_of es) i (simp length-map h)));
-    lower = λ i h. omega arith;
+    lengths = length-range_with_len 0 (length es);
+    joined = λ i h.
+        let own : get_or (range_with_len 0 (length es)) i 0 ≡ i = get_or-range_with_len 0 (length es) i 0 h ∙ omega arith in
+        subst (λ (x : ℕ). Joined (is_there es) (is_near d es) (num i) (num x)) (sym own) (joined_itself (is_there es) (is_near d es) _ (there es _ (member_at (numbers_of es) i (simp length-map h))));
+    lower = λ i h. omega (arith, get_or-range_with_len 0 (length es) i 0 h);
   }
 
   -- equal labels stay equal, whatever is done to each
@@ -89,11 +105,11 @@ module _ (d : Density) (es : Entries) where
                 elim (cases_eq (get_or labels k 0) from) [
                   | inl same ↦
                       let is : get_or (map (relabelled from to) labels) k 0 ≡ to = at ∙ relabelled_here from to _ same in
-                      let to_p : J (get_or (numbers_of es) k 0) from = subst (λ (x : ℕ). J (get_or (numbers_of es) k 0) x) same (low.joined k h) in
+                      let to_p : J (num k) (num from) = subst (λ (x : ℕ). J (num k) (num x)) same (low.joined k h) in
                       let back = joined_back (is_there es) (is_near d es) alike _ _ (low.joined p hp) in
                       let on = joined_on (is_there es) (is_near d es) _ _ _ to_p (joined_on (is_there es) (is_near d es) _ _ _ back (joined_on (is_there es) (is_near d es) _ _ _ joined (low.joined q hq))) in
-                      subst (λ (x : ℕ). J (get_or (numbers_of es) k 0) x) (sym is) on
-                  | inr other ↦ subst (λ (x : ℕ). J (get_or (numbers_of es) k 0) x) (sym (at ∙ relabelled_other from to _ other)) (low.joined k h)
+                      subst (λ (x : ℕ). J (num k) (num x)) (sym is) on
+                  | inr other ↦ subst (λ (x : ℕ). J (num k) (num x)) (sym (at ∙ relabelled_other from to _ other)) (low.joined k h)
                 ];
             lower = λ k h.
                 let at = get_or-map (relabelled from to) labels k 0 0 (omega (arith, low.lengths)) in
@@ -131,15 +147,61 @@ module _ (d : Density) (es : Entries) where
         ]
       ]
 
-      -- where near cores have one label each, each label is that of its core
-      pub labels_are : AgreeBelow d es labels (length es) → AreLabels d es labels
-      labels_are agree = record { lengths = low.lengths; each = λ i h. record { joined = low.joined i h; least = λ c j. along c j.steps i h j.chain } }
+      -- where near cores have one root each, the number of each root is the label of its core
+      pub labels_are : Rises (numbers_of es) → AgreeBelow d es labels (length es) → (numbers : List ℕ) → numbers ≡ map num labels → AreLabels d es numbers
+      labels_are rises agree numbers are = record {
+        lengths = ap length are ∙ length-map labels num ∙ low.lengths;
+        each = λ i h.
+            let is : get_or numbers i 0 ≡ num (get_or labels i 0) = ap (λ (xs : List ℕ). get_or xs i 0) are ∙ get_or-map num labels i 0 0 (omega (arith, low.lengths)) in
+            subst (λ (x : ℕ). IsLabel (is_there es) (is_near d es) (num i) x) (sym is) (record { joined = low.joined i h; least = λ c j. along c j.steps i h j.chain });
+      }
         where
-          along : (c : ℕ) (steps : List ℕ) (i : ℕ) → i < length es → IsChain (is_there es) (is_near d es) (get_or (numbers_of es) i 0) steps c → get_or labels i 0 ≤ c
-          along c [] i h chain = omega (arith, low.lower i h, chain.1)
+          along : (c : ℕ) (steps : List ℕ) (i : ℕ) → i < length es → IsChain (is_there es) (is_near d es) (num i) steps c → num (get_or labels i 0) ≤ c
+          along c [] i h chain =
+              let up : num (get_or labels i 0) ≤ num i = rise (numbers_of es) rises (get_or labels i 0) i (low.lower i h) (simp length-map h) in
+              omega (arith, up, chain.1)
           along c (x ∷ rest) i h chain =
               let at = place_of (numbers_of es) x (among es x (chain_start (is_there es) (is_near d es) x rest c chain.2)) in
               let below : at.0 < length es = simp length-map at at.1.below in
-              let onto : IsChain (is_there es) (is_near d es) (get_or (numbers_of es) at.0 0) rest c = subst (λ (y : ℕ). IsChain (is_there es) (is_near d es) y rest c) (sym at.1.is) chain.2 in
-              let here : get_or labels i 0 ≡ get_or labels at.0 0 = agree_all agree i at.0 h below (subst (λ (y : ℕ). IsTrue (is_near d es (get_or (numbers_of es) i 0) y)) (sym at.1.is) chain.1) in
-              omega (arith, along c rest at.0 below onto, here)
+              let onto : IsChain (is_there es) (is_near d es) (num at.0) rest c = subst (λ (y : ℕ). IsChain (is_there es) (is_near d es) y rest c) (sym at.1.is) chain.2 in
+              let here : get_or labels i 0 ≡ get_or labels at.0 0 = agree_all agree i at.0 h below (subst (λ (y : ℕ). IsTrue (is_near d es (num i) y)) (sym at.1.is) chain.1) in
+              omega (arith, along c rest at.0 below onto, ap num here)
+
+module _ (d : Density) (es : Entries) (alike : (a b : ℕ) → is_near d es a b ≡ is_near d es b a) where
+  -- what is near the core at a place
+  abbrev pub NearTo : ℕ → ℕ → Type 0
+  NearTo i j = (j < length es) × IsTrue (is_near d es (get_or (numbers_of es) i 0) (get_or (numbers_of es) j 0))
+
+  pub length_pair : (i j : ℕ) (roots : List ℕ) → length (joined_pair i j roots) ≡ length roots
+  length_pair i j roots = length-map roots (relabelled (max (get_or roots i 0) (get_or roots j 0)) (min (get_or roots i 0) (get_or roots j 0)))
+
+  -- joined with several that are near it, a core's root stays lowered
+  pub lowered_each : (i : ℕ) (js roots : List ℕ) → i < length es → AllByRecursion (NearTo i) js → AreLowered d es roots → AreLowered d es (joined_each i js roots)
+  lowered_each i [] roots h near low = low
+  lowered_each i (j ∷ js) roots h near low = lowered_each i js (joined_pair i j roots) h near.1 (lowered_merged d es alike roots low i j h near.0.0 near.0.1)
+
+  -- places that have one root keep one
+  same_pair : (i j x y : ℕ) (roots : List ℕ) → x < length roots → y < length roots → get_or roots x 0 ≡ get_or roots y 0 → get_or (joined_pair i j roots) x 0 ≡ get_or (joined_pair i j roots) y 0
+  same_pair i j x y roots hx hy same =
+      let f = relabelled (max (get_or roots i 0) (get_or roots j 0)) (min (get_or roots i 0) (get_or roots j 0)) in
+      get_or-map f roots x 0 0 hx ∙ ap f same ∙ sym (get_or-map f roots y 0 0 hy)
+
+  same_each : (i : ℕ) (js : List ℕ) (x y : ℕ) (roots : List ℕ) → x < length roots → y < length roots → get_or roots x 0 ≡ get_or roots y 0 → get_or (joined_each i js roots) x 0 ≡ get_or (joined_each i js roots) y 0
+  same_each i [] x y roots hx hy same = same
+  same_each i (j ∷ js) x y roots hx hy same =
+      same_each i js x y (joined_pair i j roots) (omega (arith, hx, length_pair i j roots)) (omega (arith, hy, length_pair i j roots)) (same_pair i j x y roots hx hy same)
+
+  -- the core has one root with each of those
+  pub met_each : (i : ℕ) (js : List ℕ) (k : ℕ) (roots : List ℕ) → i < length roots → k < length roots → Member k js → get_or (joined_each i js roots) i 0 ≡ get_or (joined_each i js roots) k 0
+  met_each i [] k roots hi hk m = absurd m
+  met_each i (j ∷ js) k roots hi hk (inl same) =
+      let hj : j < length roots = omega (arith, hk, same) in
+      let now : get_or (joined_pair i j roots) i 0 ≡ get_or (joined_pair i j roots) j 0 = merged_same d es roots i j hi hj in
+      let at : get_or (joined_pair i j roots) i 0 ≡ get_or (joined_pair i j roots) k 0 = now ∙ ap (λ (x : ℕ). get_or (joined_pair i j roots) x 0) (sym same) in
+      same_each i js i k (joined_pair i j roots) (omega (arith, hi, length_pair i j roots)) (omega (arith, hk, length_pair i j roots)) at
+  met_each i (j ∷ js) k roots hi hk (inr m) = met_each i js k (joined_pair i j roots) (omega (arith, hi, length_pair i j roots)) (omega (arith, hk, length_pair i j roots)) m
+
+  -- near ones that have one root keep one
+  pub agree_each : (i : ℕ) (js roots : List ℕ) (n : ℕ) → n ≤ length roots → AgreeBelow d es roots n → AgreeBelow d es (joined_each i js roots) n
+  agree_each i [] roots n h agree = agree
+  agree_each i (j ∷ js) roots n h agree = agree_each i js (joined_pair i j roots) n (omega (arith, h, length_pair i j roots)) (agree_merged d es roots i j n h agree)

@@ -13,7 +13,7 @@ use Rattle.vec_record.specs.Vectors.{IsVector, IsWidth}
 use Rattle.vec_record.specs.Held.{AreAll}
 use Rattle.plain_dbscan.specs.declared.points.Point.{Point}
 use Rattle.plain_dbscan.specs.Marks.{Entries, numbers_of, Density, is_near, is_core, size_of, within}
-use Rattle.plain_dbscan.specs.Points.{entries_of, IsOfWidth, AreOfWidth, is_close, is_core_point}
+use Rattle.plain_dbscan.specs.Points.{entries_of, IsOfWidth, AreOfWidth, ArePointSizes, is_close, is_core_point}
 use Rattle.plain_dbscan.proofs.Chains.{Member}
 use Rattle.plain_dbscan.proofs.Members.{Rises, member_at}
 use Rattle.plain_dbscan.proofs.CoresOf.{rises_sorted, core_by_size}
@@ -86,6 +86,10 @@ core_by_count d points i p sorted h is =
     let lt : i < length (numbers_of rows) = simp length-map h in
     let member : Member p.number (numbers_of rows) = subst (λ (a : ℕ). Member a (numbers_of rows)) (number_read points i p h is) (member_at (numbers_of rows) i lt) in
     core_by_size d rows p.number member ∙ ap (nat_le d.minpts) (size_by_vectors d points p sorted (is_in points i p sorted h is))
+
+-- and so where the sizes of all points are listed
+pub core_by_size_at : (d : Density) (points : List Point) (sizes : List ℕ) (i : ℕ) (p : Point) → T (is_sorted nat_cmp (entries_of points)) → ArePointSizes d points sizes → i < length points → p ≡ get_or points i p → is_core_point d (entries_of points) p ≡ nat_le d.minpts (get_or sizes i 0)
+core_by_size_at d points sizes i p sorted are h is = core_by_count d points i p sorted h is ∙ ap (nat_le d.minpts) (sym (are.each i p h is))
 
 -- the cores so far, and one point more
 pub filter_in : {X : Type 0} (test : X → Bool) (xs : List X) (i : ℕ) (x : X) → i < length xs → x ≡ get_or xs i x → test x ≡ true → filter test (take (i + 1) xs) ≡ filter test (take i xs) ++ x ∷ []

@@ -9,3 +9,4 @@ pub mod Across
 pub mod Index
 pub mod Change
 pub mod Asked
+pub mod inside

@@ -1,4 +1,4 @@
--- Labels that merge where cores are near each other. No public contract cites these.
+-- Roots that merge where cores are near each other, and the labels that they give. No public contract cites these.
 use Rattle.std.specs.Prelude.{◌≡◌, ℕ, ◌<◌, ◌≤◌, ◌==◌, Bool, List, length, map, max, min, slice_index, IsTrue, if◌then◌else◌}
 use Rattle.std.specs.Ordering.{nat_cmp}
 use Rattle.std.specs.FinMap.Entries.{find as value_at}
@@ -18,20 +18,20 @@ merged a b labels = map (relabelled (max a b) (min a b)) labels
 abbrev pub is_there : Entries → ℕ → Bool
 is_there cores a = is_some (value_at nat_cmp a cores)
 
--- each label is joined with the core at its place, and not above it
-pub record AreLowered (d : Density) (cores : Entries) (labels : List ℕ) : Type 0 where
-  pub lengths : length labels ≡ length cores
-  pub joined : (i : ℕ) → i < length cores → Joined (is_there cores) (is_near d cores) (slice_index (numbers_of cores) i) (slice_index labels i)
-  pub lower : (i : ℕ) → i < length cores → slice_index labels i ≤ slice_index (numbers_of cores) i
+-- the core at each place is joined with that at its root, which is not above it
+pub record AreLowered (d : Density) (cores : Entries) (roots : List ℕ) : Type 0 where
+  pub lengths : length roots ≡ length cores
+  pub joined : (i : ℕ) → i < length cores → Joined (is_there cores) (is_near d cores) (slice_index (numbers_of cores) i) (slice_index (numbers_of cores) (slice_index roots i))
+  pub lower : (i : ℕ) → i < length cores → slice_index roots i ≤ i
 
--- the core at place i has the label of each near one before place j
+-- place i has the root of each near one before place j
 abbrev pub AgreesBefore : Density → Entries → List ℕ → ℕ → ℕ → Type 0
-AgreesBefore d cores labels i j =
-    (k : ℕ) → k < j → IsTrue (is_near d cores (slice_index (numbers_of cores) i) (slice_index (numbers_of cores) k)) → slice_index labels i ≡ slice_index labels k
+AgreesBefore d cores roots i j =
+    (k : ℕ) → k < j → IsTrue (is_near d cores (slice_index (numbers_of cores) i) (slice_index (numbers_of cores) k)) → slice_index roots i ≡ slice_index roots k
 
--- near ones of the first n cores have one label
+-- near ones of the first n cores have one root
 abbrev pub AgreeBelow : Density → Entries → List ℕ → ℕ → Type 0
-AgreeBelow d cores labels n = (i : ℕ) → i < n → AgreesBefore d cores labels i i
+AgreeBelow d cores roots n = (i : ℕ) → i < n → AgreesBefore d cores roots i i
 
 -- each label is that of the core at its place, where these records are all cores
 pub record AreLabels (d : Density) (cores : Entries) (labels : List ℕ) : Type 0 where

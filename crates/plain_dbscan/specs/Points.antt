@@ -1,5 +1,5 @@
 -- Points in a list, and the records that they are. No public contract cites these.
-use Rattle.std.specs.Prelude.{◌≡◌, ℕ, Bool, List, Option, Some, None, map, nat_le, slice_index}
+use Rattle.std.specs.Prelude.{◌≡◌, ℕ, ◌<◌, Bool, List, Option, Some, None, length, map, nat_le, count_by, slice_index, slice_index_or}
 use Rattle.std.specs.List.{All}
 use Rattle.vec_record.specs.Vectors.{IsVector, IsWidth}
 use Rattle.vec_record.specs.Table.{Table}
@@ -38,6 +38,11 @@ pub record ArePacked (points : List Point) (t : Table) : Type 0 where
 -- whether a row is at most eps from a vector
 abbrev pub is_near_row : (List ℕ → List ℕ → ℕ) → ℕ → List ℕ → List ℕ → Bool
 is_near_row dist eps v row = nat_le (dist v row) eps
+
+-- the size of each point: how many points are close to it
+pub record ArePointSizes (d : Density) (points : List Point) (sizes : List ℕ) : Type 0 where
+  pub lengths : length sizes ≡ length points
+  pub each : (i : ℕ) (p : Point) → i < length points → p ≡ slice_index_or points i p → slice_index sizes i ≡ count_by (is_close d.dist d.eps p.vector.now) points
 
 -- whether a point is a core of the records
 abbrev pub is_core_point : Density → Entries → Point → Bool

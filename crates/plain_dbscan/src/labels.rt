@@ -1,116 +1,103 @@
-//! The labels of cores, by merging.
+//! Labels of cores, by joining those that are near each other.
 
-ghost use Rattle.std.specs.Prelude.{◌≡◌, ◌+◌, ◌*◌, ◌<◌, ◌≤◌, length, map, slice_index, IfOk};
+ghost use Rattle.std.specs.Prelude.{◌≡◌, ◌+◌, ◌*◌, ◌<◌, ◌≤◌, ℕ, List, length, map, slice_index, IfOk};
 ghost use Rattle.std.specs.Ordering.{nat_cmp};
 ghost use Rattle.std.specs.FinMap.Entries.{is_sorted};
 ghost use lib.Dec.{T};
 ghost use Rattle.plain_dbscan.specs.Marks.{density, numbers_of};
-ghost use Rattle.plain_dbscan.specs.Points.{entries_of, OfOneWidth};
-ghost use Rattle.plain_dbscan.specs.Merging.{relabelled, merged, AreLowered, AgreeBelow, AreLabels};
+ghost use Rattle.plain_dbscan.specs.Points.{entries_of, OfOneWidth, ArePacked};
+ghost use Rattle.plain_dbscan.specs.Merging.{AreLabels};
+ghost use Rattle.plain_dbscan.specs.inside.Roots.{AreParents, AreRoots, roots_of};
 
-use crate::points::{Point, are_near};
+use crate::points::Point;
+use crate::roots::{find_root, join_each, own_places};
 use std::alloc::{AllocError, Global};
 use std::sync::ledger::Ledger;
-use vec_record::{Metric, Number, Steps};
+use vec_record::{Block, Metric, Number, Steps};
 
-/// The number of each point.
-fn own_numbers(alloc: Global, points: &[Point<'_>]) -> Result<Vec<Number>, AllocError>
-    ensures { IfOk result (λ numbers. numbers.items ≡ numbers_of (entries_of points.now)) }
-{
-    let mut numbers = Vec::new(alloc);
-    for point in points {
-        numbers.push(point.number)?;
-    }
-    Ok(numbers)
-}
-
-/// Puts one label in the place of another everywhere.
-fn relabel(labels: &mut [Number], from: Number, to: Number)
-    ensures { labels.new ≡ map (relabelled from to) labels.old }
-{
-    for label in labels.iter_mut() {
-        *label = if *label == from { to } else { *label };
-    }
-}
-
-/// Makes one of the labels at two places: the lesser stays.
-fn merge(labels: &mut [Number], i: usize, j: usize)
-    requires first { i < length labels.old }
-    requires second { j < length labels.old }
-    ensures { labels.new ≡ merged (slice_index labels.old i) (slice_index labels.old j) labels.old }
-{
-    let a = labels[i];
-    let b = labels[j];
-    if a < b {
-        relabel(labels, b, a);
-    } else {
-        relabel(labels, a, b);
-    }
-}
-
-/// Merges the label of one core with those of the cores before it that are near.
-fn join_at<M: Metric, L: Ledger>(
-    cores: &[Point<'_>],
-    eps: u32,
+/// Joins the tree of the row at place `i` with those of the rows before it that are near it.
+fn join_row<M: Metric, L: Ledger>(
+    rows: &Block,
     i: usize,
-    labels: &mut [Number],
-    steps: &mut Steps<L>,
-)
-    requires vectors { OfOneWidth cores.now }
-    requires rising { T (is_sorted nat_cmp (entries_of cores.now)) }
-    requires place { i < length cores.now }
-    requires lowered { AreLowered (density M.dist eps 0) (entries_of cores.now) labels.old }
-    requires agree { AgreeBelow (density M.dist eps 0) (entries_of cores.now) labels.old i }
-    ensures lowered { AreLowered (density M.dist eps 0) (entries_of cores.now) labels.new }
-    ensures agree { AgreeBelow (density M.dist eps 0) (entries_of cores.now) labels.new (i + 1) }
-    ensures few { steps.new ≤ steps.old + length cores.now }
-    ensures counts { steps.old ≤ steps.new }
-{
-    for j in 0..i {
-        if labels[i] != labels[j]
-            && are_near::<M, L>(cores[i].vector, cores[j].vector, eps, steps)
-        {
-            merge(labels, i, j);
-        }
-    }
-}
-
-/// Merges the labels of all cores that are near each other.
-fn join_all<M: Metric, L: Ledger>(
-    cores: &[Point<'_>],
     eps: u32,
-    labels: &mut [Number],
+    parents: &mut [usize],
+    near: &mut [usize],
     steps: &mut Steps<L>,
 )
-    requires vectors { OfOneWidth cores.now }
-    requires rising { T (is_sorted nat_cmp (entries_of cores.now)) }
-    requires own { labels.old ≡ numbers_of (entries_of cores.now) }
-    ensures labels { AreLabels (density M.dist eps 0) (entries_of cores.now) labels.new }
-    ensures few { steps.new ≤ steps.old + length cores.now * length cores.now }
+    requires place { i < length rows.now.rows }
+    requires room { length rows.now.rows ≤ length near.old }
+    requires lengths { length parents.old ≡ length rows.now.rows }
+    requires parents { AreParents parents.old }
+    requires roots { AreRoots parents.old (roots_of M.dist eps rows.now i) }
+    ensures roots { AreRoots parents.new (roots_of M.dist eps rows.now (i + 1)) }
+    ensures parents { AreParents parents.new }
+    ensures lengths { length parents.new ≡ length parents.old }
+    ensures few { steps.new ≤ steps.old + length rows.now.rows }
     ensures counts { steps.old ≤ steps.new }
+    ensures room { length near.new ≡ length near.old }
 {
-    for i in 0..cores.len() {
-        join_at::<M, L>(cores, eps, i, labels, steps);
-    }
+    let _width = rows.width();
+    let found = M::within_range::<L>(rows.row(i), rows, 0..i, eps, near, steps);
+    join_each(parents, i, &near[..found]);
 }
 
-/// The label of each core: the least core that a chain joins it with.
+/// The parents of all places, once rows that are near each other are joined.
+fn join_rows<M: Metric, L: Ledger>(
+    alloc: Global,
+    rows: &Block,
+    eps: u32,
+    steps: &mut Steps<L>,
+) -> Result<Vec<usize>, AllocError>
+    ensures lengths { IfOk result (λ parents. length parents.items ≡ length rows.now.rows) }
+    ensures parents { IfOk result (λ parents. AreParents parents.items) }
+    ensures roots { IfOk result (λ parents. AreRoots parents.items (roots_of M.dist eps rows.now (length rows.now.rows))) }
+    ensures few { steps.new ≤ steps.old + length rows.now.rows * length rows.now.rows }
+    ensures counts { steps.old ≤ steps.new }
+{
+    let mut parents = own_places(alloc, rows.len())?;
+    let mut near = vec![in alloc; 0usize; rows.len()]?;
+    for i in 0..rows.len() {
+        join_row::<M, L>(rows, i, eps, &mut parents, &mut near, steps);
+    }
+    Ok(parents)
+}
+
+/// The number of the root of each place.
+fn root_numbers(
+    alloc: Global,
+    cores: &[Point<'_>],
+    parents: &mut [usize],
+) -> Result<Vec<Number>, AllocError>
+    requires lengths { length parents.old ≡ length cores.now }
+    requires parents { AreParents parents.old }
+    ensures { IfOk result (λ labels. (roots : List ℕ) → AreRoots parents.old roots → labels.items ≡ map (slice_index (numbers_of (entries_of cores.now))) roots) }
+{
+    let mut labels = Vec::new(alloc);
+    for i in 0..cores.len() {
+        let root = find_root(parents, i);
+        labels.push(cores[root].number)?;
+    }
+    Ok(labels)
+}
+
+/// The label of each core: the least core that a chain joins it with. `rows` are their vectors.
 ///
-/// Each core begins with its own number. Where two cores are near, the greater of their labels
-/// becomes the lesser one wherever it stands, so each merge leaves one label less.
+/// Each core begins as a tree of its own. Where two cores are near, their trees become one, and the
+/// lesser of their roots is its root.
 pub fn find_labels<M: Metric, L: Ledger>(
     alloc: Global,
     cores: &[Point<'_>],
+    rows: &Block,
     eps: u32,
     steps: &mut Steps<L>,
 ) -> Result<Vec<Number>, AllocError>
     requires vectors { OfOneWidth cores.now }
     requires rising { T (is_sorted nat_cmp (entries_of cores.now)) }
+    requires packed { ArePacked cores.now rows.now }
     ensures labels { IfOk result (λ labels. AreLabels (density M.dist eps 0) (entries_of cores.now) labels.items) }
     ensures few { steps.new ≤ steps.old + length cores.now * length cores.now }
     ensures counts { steps.old ≤ steps.new }
 {
-    let mut labels = own_numbers(alloc, cores)?;
-    join_all::<M, L>(cores, eps, &mut labels, steps);
-    Ok(labels)
+    let mut parents = join_rows::<M, L>(alloc, rows, eps, steps)?;
+    root_numbers(alloc, cores, &mut parents)
 }

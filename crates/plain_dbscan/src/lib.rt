@@ -17,6 +17,8 @@ pub mod laws;
 pub mod marks;
 pub mod plain;
 mod points;
+mod roots;
+mod sizes;
 
 pub use cases::cases_plain;
 pub use index::RangeIndex;

@@ -1,13 +1,11 @@
 //! Records as points: a number and its vector side by side.
 
-ghost use Rattle.std.specs.Prelude.{◌≡◌, ◌+◌, length, nat_le, IfOk};
+ghost use Rattle.std.specs.Prelude.{◌≡◌, IfOk};
 ghost use Rattle.std.specs.FinMap as map;
-ghost use Rattle.vec_record.specs.Vectors.{IsWidth};
 ghost use Rattle.plain_dbscan.specs.Points.{entries_of, AreOfWidth};
 
 use std::alloc::{AllocError, Global};
-use std::sync::ledger::Ledger;
-use vec_record::{Metric, Number, Records, Steps, Vector};
+use vec_record::{Number, Records, Vector};
 
 /// A record: its number, and its vector where the records keep it.
 #[derive(Clone, Copy)]
@@ -29,20 +27,4 @@ pub fn points_of(alloc: Global, records: &Records) -> Result<Vec<Point<'_>>, All
         })?;
     }
     Ok(points)
-}
-
-/// Whether two vectors of one width are at most `eps` apart. It counts one distance.
-#[inline]
-pub fn are_near<M: Metric, L: Ledger>(
-    a: &Vector,
-    b: &Vector,
-    eps: u32,
-    steps: &mut Steps<L>,
-) -> bool
-    requires same { length a.now ≡ length b.now }
-    requires width { IsWidth (length a.now) }
-    ensures near { result ≡ nat_le (M.dist a.now b.now) eps }
-    ensures counts { steps.new ≡ steps.old + 1 }
-{
-    M::distance(a, b, steps) <= eps
 }

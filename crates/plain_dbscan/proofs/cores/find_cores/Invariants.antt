@@ -1,11 +1,7 @@
-use Rattle.std.proofs.Common.{◌≡◌, ◌+◌, ◌*◌, take, filter, length}
-use Rattle.plain_dbscan.specs.Marks.{density}
-use Rattle.plain_dbscan.specs.Points.{entries_of, is_core_point}
+use Rattle.std.proofs.Common.{◌≡◌, take, filter}
+use Rattle.plain_dbscan.specs.Marks.{Density}
+use Rattle.plain_dbscan.specs.Points.{entries_of, is_core_point, ArePointSizes}
 use Rattle.plain_dbscan.proofs.cores.find_cores.Given as goal
 
-abbrev pub invariant-loop-point : goal.invariant-loop-point
-invariant-loop-point g l = record {
-  cores : l.cores.items ≡ filter (is_core_point (density g.M.Metric.dist l.eps l.minpts) (entries_of l.points)) (take l.point-index l.points);
-  counts : l.steps ≡ l.fn.steps + l.point-index * length l.points;
-  room : length l.near.items ≡ length l.points;
-}
+abbrev pub invariant-loop-i : goal.invariant-loop-i
+invariant-loop-i l = (d : Density) → d.minpts ≡ l.minpts → ArePointSizes d l.points l.sizes → l.cores.items ≡ filter (is_core_point d (entries_of l.points)) (take l.i l.points)
