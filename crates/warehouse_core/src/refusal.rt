@@ -1,3 +1,5 @@
+//! Why a batch is refused.
+
 ghost use Rattle.std.specs.Prelude.{◌≡◌};
 ghost use Rattle.warehouse_core.specs.declared.refusal.Refusal.TheVariants.{SiteFault, Memory};
 ghost use Rattle.warehouse_core.specs.Batches.{refusal_at, refusal_of};

@@ -1,3 +1,5 @@
+//! Tests of batches on a warehouse over a site in memory.
+
 ghost use Rattle.std.specs.Prelude.{◌≡◌, ◌≤◌, ◌<◌, true, false, length, IfSome};
 ghost use Rattle.site_disk.specs.Memory.{told};
 ghost use Rattle.page_gate.specs.Promises.{Holds};

@@ -1,3 +1,5 @@
+//! The warehouse.
+
 ghost use Rattle.std.specs.Prelude.{◌≡◌, ◌≤◌, ◌<◌, ◌⊎◌, ℕ, List, Bool, true, false, [], ◌∷◌, ◌++◌, Ok, Err, None, length, IsTrue, IsOk, IsErr, IfOk, OnOk, OnErr, IfErr, MatchResult};
 ghost use Rattle.site_disk.specs.Causes.{Rose};
 ghost use Rattle.page_gate.specs.Promises.{Holds};
