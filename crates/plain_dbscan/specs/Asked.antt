@@ -31,13 +31,16 @@ was_with_lost d before after a =
     is_core d after a
     && list_any (λ b. cluster_of d before a == cluster_of d before b) (lost_cores d before after)
 
--- A deletion of p asks about p, the lost cores, the records whose anchor is lost, and the cores that
--- stay of each cluster that lost one.
+-- Whether a record is a lost core, has a lost anchor, or stays a core of a cluster that lost one.
+abbrev pub is_shaken : Density → Entries → Entries → ℕ → Bool
+is_shaken d before after a =
+    is_new_core d after before a
+    || (is_lost_anchor d after (anchor_of d before a) || was_with_lost d before after a)
+
+-- A deletion of p asks about p and these records.
 abbrev pub asked_of_deletion : Density → Entries → Entries → ℕ → List ℕ
 asked_of_deletion d before after p =
-    filter
-    (λ a. a == p || (is_new_core d after before a || (is_lost_anchor d after (anchor_of d before a) || was_with_lost d before after a)))
-    (numbers_of before)
+    filter (λ a. a == p || is_shaken d before after a) (numbers_of before)
 
 -- How many distances a change may take that asks about these records.
 abbrev pub work : List ℕ → Entries → Entries → ℕ

@@ -20,11 +20,12 @@ near_in dist eps records = is_near (density dist eps 1) (map.entries records.vec
 abbrev pub all_near : (List ℕ → List ℕ → ℕ) → ℕ → Held → ℕ → List ℕ
 all_near dist eps records a = near_of (density dist eps 1) (map.entries records.vectors) a
 
--- The index holds the records, and the books have the form that books of these records have: counts
--- for exactly the records, each at least 1, no anchor at a core, and labels for exactly the cores by
--- these counts, each the least of its members.
+-- The index holds the records, and the books have the form that books of these records have:
+-- counts for exactly the records, each at least 1, no anchor at a core, and labels for exactly the
+-- cores by these counts, each the least of its members.
 pub record Fits
-    (width : ℕ) (contents : Rows) (records : Held) (counts : Counted) (labels : Labels) : Type 0 where
+    (width : ℕ) (contents : Rows) (records : Held) (counts : Counted)
+    (labels : Labels) : Type 0 where
   pub held : IsHeld width contents records
   pub numbers : (a : ℕ) → is_some (map.get counts.rows a) ≡ is_some (map.get records.vectors a)
   pub counted : (a : ℕ) (r : Row) → map.get counts.rows a ≡ Some r → 1 ≤ r.count
@@ -52,5 +53,7 @@ pub record StandsFor
     (d : Density) (width : ℕ) (contents : Rows) (records : Held) (counts : Counted)
     (labels : Labels) : Type 0 where
   pub fits : Fits width contents records counts labels
-  pub rows : (a : ℕ) → map.get counts.rows a ≡ row_due d (map.entries records.vectors) records.vectors a
+  pub rows :
+      (a : ℕ) → map.get counts.rows a
+      ≡ row_due d (map.entries records.vectors) records.vectors a
   pub labels_due : AreLabelsDue d (map.entries records.vectors) labels

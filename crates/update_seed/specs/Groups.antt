@@ -12,7 +12,8 @@ use Rattle.update_seed.specs.declared.groups.InGroup.{InGroup}
 use Rattle.update_seed.specs.Books.{AreLabelsDue}
 
 -- The list names records that are core and have no label yet, each once.
-pub record AreNew (records : Held) (counts : Counted) (labels : Labels) (cores : List ℕ) : Type 0 where
+pub record AreNew
+    (records : Held) (counts : Counted) (labels : Labels) (cores : List ℕ) : Type 0 where
   pub once : EachOnce cores
   pub there : (n : ℕ) → IsMember cores n → IsSome (finite.get records.vectors n)
   pub core : (n : ℕ) → IsMember cores n → IsCore counts n
@@ -44,8 +45,8 @@ pub record AreGathered (labels : Labels) (cores : List ℕ) (groups : List InGro
       (i j : ℕ) (g h : InGroup) → i < j → slice_get groups i ≡ Some g → slice_get groups j ≡ Some h
       → BeginsBefore g h
 
--- The labels are those of records before, whose cores are all cores still and near each other as they
--- were, and the list is exactly the cores that are new.
+-- The labels are those of records before, whose cores are all cores still and near each other as
+-- they were, and the list is exactly the cores that are new.
 pub record StoodBefore
     (d : Density) (before after : Rows) (labels : Labels) (cores : List ℕ) : Type 0 where
   pub within :
@@ -55,7 +56,8 @@ pub record StoodBefore
   pub labels_due : AreLabelsDue d (finite.entries before) labels
   pub new :
       (n : ℕ) → IsMember cores n
-      ↔ (IsTrue (is_core d (finite.entries after) n) × (is_core d (finite.entries before) n ≡ false))
+      ↔ (IsTrue (is_core d (finite.entries after) n)
+      × (is_core d (finite.entries before) n ≡ false))
 
 -- The core is one of the group's new cores, or had one of its old labels.
 abbrev pub IsInGroup : Labels → InGroup → ℕ → Type 0
@@ -75,5 +77,6 @@ AreClusters d es labels groups =
 -- Whatever makes a core, where the labels stood before, the groups are clusters.
 abbrev pub AreMerged : (List ℕ → List ℕ → ℕ) → ℕ → Held → Labels → List ℕ → List InGroup → Type 0
 AreMerged dist eps records labels cores groups =
-    (minpts : ℕ) (before : Rows) → StoodBefore (density dist eps minpts) before records.vectors labels cores
+    (minpts : ℕ) (before : Rows)
+    → StoodBefore (density dist eps minpts) before records.vectors labels cores
     → AreClusters (density dist eps minpts) (finite.entries records.vectors) labels groups

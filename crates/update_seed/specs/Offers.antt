@@ -11,7 +11,7 @@ abbrev pub least_of : Option ℕ → List ℕ → Option ℕ
 least_of anchor [] = anchor
 least_of anchor (c ∷ cores) = least_of (Some (lesser anchor c)) cores
 
--- The row of a number that isn't core, with the least of its anchor and of these cores as its anchor.
+-- The row of a number that isn't core, hung on the least of its anchor and of these cores.
 abbrev pub hung : ℕ → List ℕ → Row → Row
 hung minpts cores r =
     record r { anchor = cond (nat_lt r.count minpts) (least_of r.anchor cores) r.anchor }

@@ -63,7 +63,8 @@ fn begin(
     begun: &mut NumberMap<Number>,
     heads: &mut Vec<Number>,
 ) -> Result<(), AllocError>
-    ensures { OnOk result (IsBegun ties.now core begun.old heads.old.items begun.new heads.new.items) }
+    ensures { OnOk result (IsBegun ties.now core begun.old heads.old.items
+        begun.new heads.new.items) }
 {
     match ties.label_of(core) {
         Some(label) => {
@@ -98,8 +99,10 @@ fn class_of(
 
 // Those of the numbers that have no label, and those that have one.
 fn parted(alloc: Global, labels: &LabelBook, members: &[Number]) -> Result<InGroup, AllocError>
-    ensures new { IfOk result (λ g. g.new_cores ≡ filter (λ q. is_none (map.get labels.now q)) members.now) }
-    ensures old { IfOk result (λ g. g.old_labels ≡ filter (λ q. is_some (map.get labels.now q)) members.now) }
+    ensures new { IfOk result (λ g. g.new_cores
+        ≡ filter (λ q. is_none (map.get labels.now q)) members.now) }
+    ensures old { IfOk result (λ g. g.old_labels
+        ≡ filter (λ q. is_some (map.get labels.now q)) members.now) }
 {
     let mut new_cores = Numbers::new(alloc);
     let mut old_labels = Numbers::new(alloc);

@@ -41,7 +41,8 @@ pub(crate) fn each_alone(alloc: Global, cores: &[Number]) -> Result<LabelBook, A
     Ok(ties)
 }
 
-// Brings a number to a core, with all that is tied to it already. It takes memory where this is new alone.
+// Brings a number to a core, with all that is tied to it already. It takes memory only where this
+// is new.
 fn tie(alloc: Global, ties: &mut LabelBook, core: Number, other: Number) -> Result<(), AllocError>
     requires { IsSome (map.get ties.old core) }
     ensures { OnOk result (IsTied ties.old core other ties.new) }
@@ -90,8 +91,8 @@ fn take_in(
     Ok(())
 }
 
-// Ties a number near a new core to it, by the number's label or, where it is new itself, by the number.
-// A number that is neither is offered the core as an anchor.
+// Ties a number near a new core to it, by the number's label or, where it is new itself, by the
+// number. A number that is neither is offered the core as an anchor.
 fn tie_near(
     alloc: Global,
     ties: &mut LabelBook,

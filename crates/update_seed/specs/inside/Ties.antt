@@ -75,7 +75,8 @@ pub record AreLinked
   pub core : (n b : ℕ) → IsMember done n → IsTrue (near n b) → IsMember cores b → Same m n b
   pub finest :
       (e : ℕ → ℕ → Bool) → IsTwoWay e → ((n : ℕ) → IsMember cores n → IsTrue (e n n))
-      → ((n b l : ℕ) → IsMember cores n → IsTrue (near n b) → map.get labels b ≡ Some l → IsTrue (e n l))
+      → ((n b l : ℕ) → IsMember cores n → IsTrue (near n b) → map.get labels b ≡ Some l
+      → IsTrue (e n l))
       → ((n b : ℕ) → IsMember cores n → IsTrue (near n b) → IsMember cores b → IsTrue (e n b))
       → Finer m e
 
@@ -93,7 +94,8 @@ abbrev pub IsBegun : Labels → ℕ → Labels → List ℕ → Labels → List 
 IsBegun m core begun heads begun' heads' =
     (k : ℕ) → map.get m core ≡ Some k
     → (IsSome (map.get begun k) × ((begun' ≡ begun) × (heads' ≡ heads)))
-    ⊎ ((map.get begun k ≡ None) × ((begun' ≡ map.insert begun k core) × (heads' ≡ heads ++ core ∷ [])))
+    ⊎ ((map.get begun k ≡ None)
+    × ((begun' ≡ map.insert begun k core) × (heads' ≡ heads ++ core ∷ [])))
 
 -- the least core of each class, rising
 pub record AreHeads (m : Labels) (cores heads : List ℕ) : Type 0 where
@@ -105,7 +107,9 @@ pub record AreHeads (m : Labels) (cores heads : List ℕ) : Type 0 where
 -- the heads of these cores, with the map from the labels of their classes
 pub record AreBegun (m : Labels) (cores : List ℕ) (begun : Labels) (heads : List ℕ) : Type 0 where
   pub heads_are : AreHeads m cores heads
-  pub begun_is : (k : ℕ) → IsSome (map.get begun k) → (h : ℕ) × (IsMember heads h × (map.get m h ≡ Some k))
+  pub begun_is :
+      (k : ℕ) → IsSome (map.get begun k)
+      → (h : ℕ) × (IsMember heads h × (map.get m h ≡ Some k))
   pub is_begun : (h k : ℕ) → IsMember heads h → map.get m h ≡ Some k → IsSome (map.get begun k)
 
 -- the class of a head, its new cores and its old labels apart
