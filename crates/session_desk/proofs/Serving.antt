@@ -280,3 +280,29 @@ never-source {P} result (inl blank) source = absurd (cc (blank, source))
 never-source {P} result (inr (inl broken)) source = absurd (cc (broken, source))
 never-source {P} result (inr (inr (inl site))) source = absurd (cc (site, source))
 never-source {P} result (inr (inr (inr memory))) source = absurd (cc (memory, source))
+
+-- a refusal of the store ends with no status of a session
+pub never-ended : {P : Type 0} (result : Status) → (result ≡ status.Blank) ⊎ ((result ≡ status.Broken) ⊎ ((result ≡ status.SiteFault) ⊎ (result ≡ status.Memory))) → (result ≡ status.Fine) ⊎ ((result ≡ status.Refused) ⊎ (result ≡ status.TooLong)) → P
+never-ended {P} result (inl blank) (inl fine) = absurd (cc (blank, fine))
+never-ended {P} result (inl blank) (inr (inl refused)) = absurd (cc (blank, refused))
+never-ended {P} result (inl blank) (inr (inr long)) = absurd (cc (blank, long))
+never-ended {P} result (inr (inl broken)) (inl fine) = absurd (cc (broken, fine))
+never-ended {P} result (inr (inl broken)) (inr (inl refused)) = absurd (cc (broken, refused))
+never-ended {P} result (inr (inl broken)) (inr (inr long)) = absurd (cc (broken, long))
+never-ended {P} result (inr (inr (inl site))) (inl fine) = absurd (cc (site, fine))
+never-ended {P} result (inr (inr (inl site))) (inr (inl refused)) = absurd (cc (site, refused))
+never-ended {P} result (inr (inr (inl site))) (inr (inr long)) = absurd (cc (site, long))
+never-ended {P} result (inr (inr (inr memory))) (inl fine) = absurd (cc (memory, fine))
+never-ended {P} result (inr (inr (inr memory))) (inr (inl refused)) = absurd (cc (memory, refused))
+never-ended {P} result (inr (inr (inr memory))) (inr (inr long)) = absurd (cc (memory, long))
+
+-- and a session with none of such a refusal
+pub never-unopened : {P : Type 0} (result : Status) → (result ≡ status.Fine) ⊎ ((result ≡ status.Refused) ⊎ ((result ≡ status.TooLong) ⊎ (is_fault result ≡ true))) → (result ≡ status.Blank) ⊎ (result ≡ status.Broken) → P
+never-unopened {P} result (inl fine) (inl blank) = absurd (cc (fine, blank))
+never-unopened {P} result (inl fine) (inr broken) = absurd (cc (fine, broken))
+never-unopened {P} result (inr (inl refused)) (inl blank) = absurd (cc (refused, blank))
+never-unopened {P} result (inr (inl refused)) (inr broken) = absurd (cc (refused, broken))
+never-unopened {P} result (inr (inr (inl long))) (inl blank) = absurd (cc (long, blank))
+never-unopened {P} result (inr (inr (inl long))) (inr broken) = absurd (cc (long, broken))
+never-unopened {P} result (inr (inr (inr fault))) (inl blank) = let e = ap is_fault blank in absurd (cc (fault, e))
+never-unopened {P} result (inr (inr (inr fault))) (inr broken) = let e = ap is_fault broken in absurd (cc (fault, e))

@@ -1,10 +1,12 @@
 -- The headline: what is said is what plain clustering says of the records, and no crash loses an acknowledged batch.
-use Rattle.std.specs.Prelude.{◌≡◌, ◌⊎◌, ℕ, ◌+◌, ◌≤◌, List, ◌++◌, length, take}
-use Rattle.site_disk.specs.State.{SiteState}
+use Rattle.std.specs.Prelude.{◌≡◌, ◌⊎◌, ℕ, ◌+◌, ◌≤◌, false, List, ◌++◌, length, take, None}
+use Rattle.site_disk.specs.State.{SiteState, Safe}
 use Rattle.page_gate.specs.Gate.{opening}
 use Rattle.page_gate.specs.Same.{IsOnly}
-use Rattle.store_image.specs.Stores.{IsSound, records_on, batches_on, params_on}
+use Rattle.store_image.specs.Stores.{IsSound, records_on, batches_on, params_on, refusal_on}
 use Rattle.session_desk.specs.declared.status.Status.{Status}
+use Rattle.session_desk.specs.declared.status.Status.TheVariants.{Fine, Refused, SourceFault, Memory, Blank, Broken, TooLong}
+use Rattle.session_desk.specs.Statuses.{is_fault}
 use Rattle.session_desk.specs.Session.{acked, text_of, rows_after_all, whole_requests}
 use Rattle.session_desk.specs.Courses.{session, course_text, values_on, answers_over, accepted}
 
@@ -58,3 +60,28 @@ IsSettled input a b =
 -- At a moment of a session that isn't begun, over any content: the image is one of the start, or opens as the content does.
 abbrev pub IsUntouched : SiteState → List ℕ → List ℕ → Type 0
 IsUntouched a said image = a.may_leave image ⊎ (opening image ≡ opening a.content)
+
+-- A run of `serve` over a source and a site that tell, of which the source had `input` to give at the start and
+-- `left` at the end, and the site went from a to b.
+pub record Serves (input left : List ℕ) (result : Status) (a b : SiteState) : Type 0 where
+  -- Answers: all of the session's text and its status, where neither a fault nor want of memory ended the run
+  pub answers : is_fault result ≡ false → SaysAll input result a b
+  -- after a fault of the source, the answers to all that it gave whole
+  pub whole : result ≡ SourceFault → SaysWhole input left a b
+  -- Crash: at every moment a prefix of the text was said, and the image is one of the start or holds whole
+  -- batches, each acknowledged one among them
+  pub crash : Safe a b (IsMoment input a)
+  -- End: one image with all accepted batches
+  pub end : (result ≡ Fine) ⊎ ((result ≡ Refused) ⊎ (result ≡ TooLong)) → KeepsAll input a b
+  -- after a fault of the source or want of memory, each committed batch has its receipt said
+  pub settled : IsSound a.content → (result ≡ SourceFault) ⊎ (result ≡ Memory) → IsSettled input a b
+
+-- Completeness: the status is the session's, or memory was wanting.
+abbrev pub IsComplete : List ℕ → Status → SiteState → Type 0
+IsComplete input result a = (result ≡ (session a.content input).status) ⊎ (result ≡ Memory)
+
+-- `serve` over a content that doesn't open, and wherever it says so: each image is one of the start or opens as
+-- the content does.
+pub record LeavesUnopened (result : Status) (a b : SiteState) : Type 0 where
+  pub untouched : (refusal_on a.content ≡ None → ⊥) → Safe a b (IsUntouched a)
+  pub unbegun : (result ≡ Blank) ⊎ (result ≡ Broken) → Safe a b (IsUntouched a)

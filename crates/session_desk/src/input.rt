@@ -1,3 +1,5 @@
+//! The input of `once`: the records of one batch over none, or its refusal.
+
 ghost use Rattle.std.specs.Prelude.{◌≡◌, ◌<◌, ◌≤◌, ◌+◌, ◌^◌, [], ℕ, length, IfOk, IsOk, OnOk, Ok, Err};
 ghost use Rattle.std.specs.FinMap as map;
 ghost use Rattle.std.specs.List.{AllByRecursion};

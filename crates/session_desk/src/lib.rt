@@ -16,8 +16,6 @@ mod requests;
 mod saying;
 mod serve;
 pub mod status;
-#[cfg(test)]
-mod tests;
 mod texts;
 pub mod top;
 mod words;

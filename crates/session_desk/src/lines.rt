@@ -1,3 +1,5 @@
+//! The lines of a session, read from a source piece by piece.
+
 ghost use Rattle.std.specs.Prelude.{◌≡◌, ◌≤◌, ◌<◌, ◌+◌, ◌-◌, ◌++◌, ◌||◌, [], Ok, ℕ, Bool, List, true, false, nat_lt, min, length, drop, take, is_err, IsOk, IfOk, OnOk, OnErr, IsErrOf, IsTrue, if◌then◌else◌};
 ghost use Rattle.std.specs.List.{position_or_len};
 ghost use Rattle.site_disk.specs.Causes.{Rose};

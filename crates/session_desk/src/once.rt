@@ -1,3 +1,5 @@
+//! The word `once`.
+
 ghost use Rattle.std.specs.Prelude.{◌≡◌, ◌≤◌, ◌+◌, ◌++◌, ℕ, List, [], take, false, IsTrue, IfOk, OnOk, Ok, ◌⊎◌, length};
 ghost use Rattle.std.specs.FinMap as map;
 ghost use Rattle.vec_record.specs.Distance.{distance_of};

@@ -1,3 +1,5 @@
+//! The whole input of a source, within the limit.
+
 ghost use Rattle.std.specs.Prelude.{◌≡◌, ◌≤◌, ◌<◌, ◌+◌, ◌++◌, [], ℕ, List, IsTrue, OnOk, IfOk, IsErrOf, length, vec_len};
 ghost use Rattle.site_disk.specs.Causes.{Rose};
 ghost use Rattle.session_desk.specs.Reading.{IsTaken};

@@ -1,3 +1,5 @@
+//! What an input asks for next.
+
 ghost use Rattle.std.specs.Prelude.{◌≡◌, ◌≤◌, ◌<◌, ℕ, List, [], ◌∷◌, ◌++◌, length, true, false, IsTrue, IsErrOf, IfOk, IsSome, OnOk, Ok, Some, codes};
 ghost use Rattle.std.specs.Str.{bytes_eq};
 ghost use Rattle.site_disk.specs.Causes.{Rose};

@@ -5,12 +5,10 @@ ghost use Rattle.site_disk.specs.State.{Safe, Joins};
 ghost use Rattle.page_gate.specs.Promises.{Holds, HasFault};
 ghost use Rattle.page_layout.specs.Heads.{Values};
 ghost use Rattle.store_image.specs.Loading.{load_of, Fails};
-ghost use Rattle.store_image.specs.Stores.{IsSound, refusal_on};
 ghost use Rattle.session_desk.specs.Moments.{IsSaying};
 ghost use Rattle.session_desk.specs.Statuses.{is_fault};
 ghost use Rattle.session_desk.specs.Reading.{IsTaken};
-ghost use Rattle.session_desk.specs.Courses.{session};
-ghost use Rattle.session_desk.specs.Headline.{IsMoment, SaysAll, SaysWhole, KeepsAll, IsSettled, IsUntouched};
+ghost use Rattle.session_desk.specs.Headline.{Serves, IsComplete, LeavesUnopened};
 ghost use Rattle.session_desk.specs.Talks.{IsServing, IsTalk, Concludes, IsCutOff, IsKept, IsEven};
 ghost use Rattle.session_desk.specs.Opened.{state_of, is_outside, fault_of as fault_said, refusal_course, IsLoaded, Loads};
 
@@ -154,14 +152,14 @@ pub fn serve<S: Source, T: Site, L: Ledger>(
     site: &mut T,
     steps: &mut Steps<L>,
 ) -> Status
-    ensures answers { IsTrue S.tells → IsTrue T.tells → is_fault result ≡ false → SaysAll (S.left source.old) result (T.state site.old) (T.state site.new) }
-    ensures whole { IsTrue S.tells → IsTrue T.tells → result ≡ Status.SourceFault → SaysWhole (S.left source.old) (S.left source.new) (T.state site.old) (T.state site.new) }
-    ensures complete { IsTrue S.tells → IsTrue T.tells → (Rose (S.faults source.old) (S.faults source.new) → ⊥) → (Rose (T.faults site.old) (T.faults site.new) → ⊥) → (result ≡ (session (T.state site.old).content (S.left source.old)).status) ⊎ (result ≡ Status.Memory) }
-    ensures crash { IsTrue S.tells → IsTrue T.tells → Safe (T.state site.old) (T.state site.new) (IsMoment (S.left source.old) (T.state site.old)) }
-    ensures end { IsTrue S.tells → IsTrue T.tells → (result ≡ Status.Fine) ⊎ ((result ≡ Status.Refused) ⊎ (result ≡ Status.TooLong)) → KeepsAll (S.left source.old) (T.state site.old) (T.state site.new) }
-    ensures settled { IsTrue S.tells → IsTrue T.tells → IsSound (T.state site.old).content → (result ≡ Status.SourceFault) ⊎ (result ≡ Status.Memory) → IsSettled (S.left source.old) (T.state site.old) (T.state site.new) }
-    ensures untouched { IsTrue T.tells → (refusal_on (T.state site.old).content ≡ None → ⊥) → Safe (T.state site.old) (T.state site.new) (IsUntouched (T.state site.old)) }
-    ensures unbegun { IsTrue T.tells → (result ≡ Status.Blank) ⊎ (result ≡ Status.Broken) → Safe (T.state site.old) (T.state site.new) (IsUntouched (T.state site.old)) }
+    ensures serves { IsTrue S.tells → IsTrue T.tells
+        → Serves (S.left source.old) (S.left source.new) result
+        (T.state site.old) (T.state site.new) }
+    ensures complete { IsTrue S.tells → IsTrue T.tells
+        → (Rose (S.faults source.old) (S.faults source.new) → ⊥)
+        → (Rose (T.faults site.old) (T.faults site.new) → ⊥)
+        → IsComplete (S.left source.old) result (T.state site.old) }
+    ensures unopened { IsTrue T.tells → LeavesUnopened result (T.state site.old) (T.state site.new) }
     ensures known { result ≡ Status.Words → ⊥ }
     ensures site { result ≡ Status.SiteFault → Rose (T.faults site.old) (T.faults site.new) }
     ensures source { result ≡ Status.SourceFault → Rose (S.faults source.old) (S.faults source.new) }

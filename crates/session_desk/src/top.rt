@@ -1,17 +1,17 @@
-ghost use Rattle.std.specs.Prelude.{◌≡◌, ◌≤◌, ◌<◌, ◌+◌, ◌++◌, ◌⊎◌, [], ℕ, List, None, Some, false, true, IsTrue, length, take, map, string_bytes};
+//! The top call.
+
+ghost use Rattle.std.specs.Prelude.{◌≡◌, ◌≤◌, ◌+◌, ◌++◌, ◌⊎◌, [], ℕ, List, None, Some, false, IsTrue, map, string_bytes};
 ghost use Rattle.site_disk.specs.Causes.{Rose};
 ghost use Rattle.site_disk.specs.State.{Safe, Joins};
 ghost use Rattle.page_gate.specs.Gate.{is_blank};
 ghost use Rattle.page_layout.specs.Heads.{Values};
-ghost use Rattle.store_image.specs.Stores.{IsSound, refusal_on};
-ghost use Rattle.session_desk.specs.Moments.{IsSaying, LeavesAlone};
+ghost use Rattle.session_desk.specs.Moments.{Says, LeavesAlone};
 ghost use Rattle.session_desk.specs.Statuses.{is_fault};
 ghost use Rattle.session_desk.specs.Words.{Init, Serve, setting_of, command_of, asks_store};
 ghost use Rattle.session_desk.specs.Reading.{IsTaken};
 ghost use Rattle.session_desk.specs.Answers.{usage_text, answer_of};
 ghost use Rattle.session_desk.specs.Births.{birth_due, IsBirthMoment, IsBorn};
-ghost use Rattle.session_desk.specs.Courses.{session};
-ghost use Rattle.session_desk.specs.Headline.{IsMoment, SaysAll, SaysWhole, KeepsAll, IsSettled, IsUntouched};
+ghost use Rattle.session_desk.specs.Headline.{Serves, IsComplete, LeavesUnopened};
 
 use crate::birth::init;
 use crate::once::run_once;
@@ -40,59 +40,85 @@ pub fn run<S: Source, T: Site, L: Ledger>(
     site: &mut T,
     steps: &mut Steps<L>,
 ) -> Status
-    // `serve`, the headline. Answers: all of the session's text and its status, or the answers to all that the source gave whole.
-    ensures answers { IsTrue S.tells → IsTrue T.tells → command_of (map string_bytes words.now) ≡ Some Serve → is_fault result ≡ false → SaysAll (S.left source.old) result (T.state site.old) (T.state site.new) }
-    ensures whole { IsTrue S.tells → IsTrue T.tells → command_of (map string_bytes words.now) ≡ Some Serve → result ≡ Status.SourceFault → SaysWhole (S.left source.old) (S.left source.new) (T.state site.old) (T.state site.new) }
+    // `serve`, the headline: answers, crash and end. Completeness: where no count of faults rose, the status is
+    // the session's, or memory was wanting.
+    ensures serves { IsTrue S.tells → IsTrue T.tells
+        → command_of (map string_bytes words.now) ≡ Some Serve
+        → Serves (S.left source.old) (S.left source.new) result
+        (T.state site.old) (T.state site.new) }
+    ensures complete { IsTrue S.tells → IsTrue T.tells
+        → command_of (map string_bytes words.now) ≡ Some Serve
+        → (Rose (S.faults source.old) (S.faults source.new) → ⊥)
+        → (Rose (T.faults site.old) (T.faults site.new) → ⊥)
+        → IsComplete (S.left source.old) result (T.state site.old) }
+    ensures unopened { IsTrue T.tells → command_of (map string_bytes words.now) ≡ Some Serve
+        → LeavesUnopened result (T.state site.old) (T.state site.new) }
+    ensures ended { IsTrue S.tells → command_of (map string_bytes words.now) ≡ Some Serve
+        → (result ≡ Status.Fine) ⊎ (result ≡ Status.Refused) → S.left source.new ≡ [] }
 
-    // Completeness: where no count of faults rose, the status is the session's, or memory was wanting.
-    ensures complete { IsTrue S.tells → IsTrue T.tells → command_of (map string_bytes words.now) ≡ Some Serve → (Rose (S.faults source.old) (S.faults source.new) → ⊥) → (Rose (T.faults site.old) (T.faults site.new) → ⊥) → (result ≡ (session (T.state site.old).content (S.left source.old)).status) ⊎ (result ≡ Status.Memory) }
+    // `init`: the status and the text that are due, and at every moment an image of the start, a blank one, or the
+    // new store.
+    ensures birth_status { (v : Values) → IsTrue T.tells
+        → command_of (map string_bytes words.now) ≡ Some (Init v)
+        → is_fault result ≡ false
+        → result ≡ (birth_due (is_blank (T.state site.old).content)).status }
+    ensures birth_text { (v : Values) → IsTrue T.tells
+        → command_of (map string_bytes words.now) ≡ Some (Init v)
+        → is_fault result ≡ false
+        → (T.state site.new).said ≡ (T.state site.old).said ++ (birth_due (is_blank (T.state site.old).content)).text }
+    ensures birth { (v : Values) → IsTrue T.tells
+        → command_of (map string_bytes words.now) ≡ Some (Init v)
+        → Safe (T.state site.old) (T.state site.new) (IsBirthMoment v (T.state site.old)) }
+    ensures born { (v : Values) → IsTrue T.tells
+        → command_of (map string_bytes words.now) ≡ Some (Init v)
+        → IsBorn v result (T.state site.old) (T.state site.new) }
+    ensures birth_unread { (v : Values) → IsTrue S.tells
+        → command_of (map string_bytes words.now) ≡ Some (Init v)
+        → S.left source.new ≡ S.left source.old }
+    ensures birth_answers { (v : Values) → command_of (map string_bytes words.now) ≡ Some (Init v)
+        → (result ≡ Status.Fine) ⊎ (result ≡ Status.Exists)
+        ⊎ (result ≡ Status.SiteFault) ⊎ (result ≡ Status.Memory) }
 
-    // Crash: at every moment a prefix of the text was said, and the image is one of the start or holds whole batches, each acknowledged one among them.
-    ensures crash { IsTrue S.tells → IsTrue T.tells → command_of (map string_bytes words.now) ≡ Some Serve → Safe (T.state site.old) (T.state site.new) (IsMoment (S.left source.old) (T.state site.old)) }
-
-    // End: one image with all accepted batches; after a fault of the source or want of memory each committed batch has its receipt said.
-    ensures end { IsTrue S.tells → IsTrue T.tells → command_of (map string_bytes words.now) ≡ Some Serve → (result ≡ Status.Fine) ⊎ ((result ≡ Status.Refused) ⊎ (result ≡ Status.TooLong)) → KeepsAll (S.left source.old) (T.state site.old) (T.state site.new) }
-    ensures settled { IsTrue S.tells → IsTrue T.tells → command_of (map string_bytes words.now) ≡ Some Serve → IsSound (T.state site.old).content → (result ≡ Status.SourceFault) ⊎ (result ≡ Status.Memory) → IsSettled (S.left source.old) (T.state site.old) (T.state site.new) }
-
-    // Over a content that doesn't open, whatever the status, each image is one of the start or opens as the content does.
-    ensures untouched { IsTrue T.tells → command_of (map string_bytes words.now) ≡ Some Serve → (refusal_on (T.state site.old).content ≡ None → ⊥) → Safe (T.state site.old) (T.state site.new) (IsUntouched (T.state site.old)) }
-    ensures unbegun { IsTrue T.tells → command_of (map string_bytes words.now) ≡ Some Serve → (result ≡ Status.Blank) ⊎ (result ≡ Status.Broken) → Safe (T.state site.old) (T.state site.new) (IsUntouched (T.state site.old)) }
-
-    // `init`: the status and the text that are due, and at every moment an image of the start, a blank one, or the new store.
-    ensures birth_status { (v : Values) → IsTrue T.tells → command_of (map string_bytes words.now) ≡ Some (Init v) → is_fault result ≡ false → result ≡ (birth_due (is_blank (T.state site.old).content)).status }
-    ensures birth_text { (v : Values) → IsTrue T.tells → command_of (map string_bytes words.now) ≡ Some (Init v) → is_fault result ≡ false → (T.state site.new).said ≡ (T.state site.old).said ++ (birth_due (is_blank (T.state site.old).content)).text }
-    ensures birth { (v : Values) → IsTrue T.tells → command_of (map string_bytes words.now) ≡ Some (Init v) → Safe (T.state site.old) (T.state site.new) (IsBirthMoment v (T.state site.old)) }
-    ensures born { (v : Values) → IsTrue T.tells → command_of (map string_bytes words.now) ≡ Some (Init v) → IsBorn v result (T.state site.old) (T.state site.new) }
-    ensures birth_unread { (v : Values) → IsTrue S.tells → command_of (map string_bytes words.now) ≡ Some (Init v) → S.left source.new ≡ S.left source.old }
-    ensures birth_answers { (v : Values) → command_of (map string_bytes words.now) ≡ Some (Init v) → (result ≡ Status.Fine) ⊎ (result ≡ Status.Exists) ⊎ (result ≡ Status.SiteFault) ⊎ (result ≡ Status.Memory) }
-
-    // `once` and refused words: the status and the text are those that are due to the words and the whole input.
-    ensures status { IsTrue S.tells → asks_store (command_of (map string_bytes words.now)) ≡ false → is_fault result ≡ false → result ≡ (answer_of (setting_of (map string_bytes words.now)) (S.left source.old)).status }
-    ensures text { IsTrue S.tells → IsTrue T.tells → asks_store (command_of (map string_bytes words.now)) ≡ false → is_fault result ≡ false → (T.state site.new).said ≡ (T.state site.old).said ++ (answer_of (setting_of (map string_bytes words.now)) (S.left source.old)).text }
-    ensures prefix { IsTrue S.tells → IsTrue T.tells → asks_store (command_of (map string_bytes words.now)) ≡ false → (n : ℕ) × ((T.state site.new).said ≡ (T.state site.old).said ++ take n (answer_of (setting_of (map string_bytes words.now)) (S.left source.old)).text) }
-
-    // At every moment a prefix of that text was said, and the content and the images are left alone.
-    ensures moments { IsTrue S.tells → IsTrue T.tells → asks_store (command_of (map string_bytes words.now)) ≡ false → Safe (T.state site.old) (T.state site.new) (IsSaying (T.state site.old) (answer_of (setting_of (map string_bytes words.now)) (S.left source.old)).text) }
-    ensures alone { IsTrue T.tells → asks_store (command_of (map string_bytes words.now)) ≡ false → LeavesAlone (T.state site.old) (T.state site.new) }
-    ensures quiet { IsTrue T.tells → asks_store (command_of (map string_bytes words.now)) ≡ false → (result ≡ Status.SourceFault) ⊎ (result ≡ Status.Memory) → (T.state site.new).said ≡ (T.state site.old).said }
+    // `once` and refused words: the status and the text are those that are due to the words and the whole
+    // input, and the content and the images are left alone.
+    ensures status { IsTrue S.tells
+        → asks_store (command_of (map string_bytes words.now)) ≡ false
+        → is_fault result ≡ false
+        → result ≡ (answer_of (setting_of (map string_bytes words.now)) (S.left source.old)).status }
+    ensures says { IsTrue S.tells → IsTrue T.tells
+        → asks_store (command_of (map string_bytes words.now)) ≡ false
+        → Says (answer_of (setting_of (map string_bytes words.now)) (S.left source.old)).text result
+        (T.state site.old) (T.state site.new) }
+    ensures alone { IsTrue T.tells
+        → asks_store (command_of (map string_bytes words.now)) ≡ false
+        → LeavesAlone (T.state site.old) (T.state site.new) }
+    ensures quiet { IsTrue T.tells
+        → asks_store (command_of (map string_bytes words.now)) ≡ false
+        → (result ≡ Status.SourceFault) ⊎ (result ≡ Status.Memory)
+        → (T.state site.new).said ≡ (T.state site.old).said }
+    ensures once_ended { IsTrue S.tells
+        → asks_store (command_of (map string_bytes words.now)) ≡ false
+        → (result ≡ Status.Fine) ⊎ (result ≡ Status.Refused) → S.left source.new ≡ [] }
 
     // Words of no known form end with the usage line, and nothing is read.
     ensures words { result ≡ Status.Words → command_of (map string_bytes words.now) ≡ None }
-    ensures refused { command_of (map string_bytes words.now) ≡ None → (result ≡ Status.Words) ⊎ (result ≡ Status.SiteFault) }
-    ensures usage { IsTrue T.tells → result ≡ Status.Words → (T.state site.new).said ≡ (T.state site.old).said ++ usage_text }
-    ensures unread { IsTrue S.tells → command_of (map string_bytes words.now) ≡ None → S.left source.new ≡ S.left source.old }
+    ensures refused { command_of (map string_bytes words.now) ≡ None
+        → (result ≡ Status.Words) ⊎ (result ≡ Status.SiteFault) }
+    ensures usage { IsTrue T.tells → result ≡ Status.Words
+        → (T.state site.new).said ≡ (T.state site.old).said ++ usage_text }
+    ensures unread { IsTrue S.tells → command_of (map string_bytes words.now) ≡ None
+        → S.left source.new ≡ S.left source.old }
 
-    // For all words: moments join through the whole call, a fault has its cause, and what is said comes behind what was said.
+    // For all words: moments join through the whole call, what is said comes behind what was said, and a fault
+    // has its cause.
     ensures joins { IsTrue T.tells → Joins (T.state site.old) (T.state site.new) }
+    ensures begins { IsTrue T.tells
+        → (more : List ℕ) × ((T.state site.new).said ≡ (T.state site.old).said ++ more) }
     ensures site { result ≡ Status.SiteFault → Rose (T.faults site.old) (T.faults site.new) }
     ensures source { result ≡ Status.SourceFault → Rose (S.faults source.old) (S.faults source.new) }
-    ensures begins { IsTrue T.tells → (more : List ℕ) × ((T.state site.new).said ≡ (T.state site.old).said ++ more) }
 
-    // What is taken of the source: at most one byte past the limit, and all of it where the run came to its end.
+    // What is taken of the source: at most one byte past the limit.
     ensures taken { IsTrue S.tells → IsTaken (INPUT_LIMIT + 1) (S.left source.old) (S.left source.new) }
-    ensures ended { IsTrue S.tells → command_of (map string_bytes words.now) ≡ Some Serve → (result ≡ Status.Fine) ⊎ (result ≡ Status.Refused) → S.left source.new ≡ [] }
-    ensures once_ended { IsTrue S.tells → asks_store (command_of (map string_bytes words.now)) ≡ false → (result ≡ Status.Fine) ⊎ (result ≡ Status.Refused) → S.left source.new ≡ [] }
-
     ensures source_later { S.faults source.old ≤ S.faults source.new }
     ensures site_later { T.faults site.old ≤ T.faults site.new }
 {

@@ -1,3 +1,5 @@
+//! The words of the command line.
+
 ghost use Rattle.std.specs.Prelude.{◌≡◌, map, string_bytes};
 ghost use Rattle.session_desk.specs.Words.{metric_named as named, number_in, checked, checked_values, setting_of, init_of, is_serve, command_of};
 ghost use Rattle.session_desk.specs.Settings.{IsSetting, IsInit, IsTask};

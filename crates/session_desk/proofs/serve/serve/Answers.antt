@@ -4,85 +4,103 @@ use Rattle.site_disk.specs.Causes.{Rose}
 use Rattle.site_disk.proofs.Moments.{joins_on}
 use Rattle.session_desk.specs.Courses.{session}
 use Rattle.session_desk.specs.Headline.{IsMoment, IsSettled}
-use Rattle.session_desk.specs.Opened.{state_of}
-use Rattle.session_desk.proofs.Serving.{opening-moments, serves-moments, serves-all, serves-whole, serves-kept, serves-settled, completes, refuses-all, refuses-moments, opening-settled, outside, not-site, rose-later, rose-before, no-fault, never-source}
+use Rattle.session_desk.specs.Opened.{state_of, refusal_course}
+use Rattle.session_desk.proofs.Serving.{opening-moments, serves-moments, serves-all, serves-whole, serves-kept, serves-settled, completes, refuses-all, refuses-moments, opening-settled, outside, not-site, rose-later, rose-before, no-fault, never-source, never-ended, never-unopened, untouched-moments}
 use Rattle.session_desk.proofs.serve.serve.Goals as goal
 
-pub returns-in-Ok-clause-answers : goal.returns-in-Ok-clause-answers
-returns-in-Ok-clause-answers g c = λ s t fine.
+pub returns-in-Ok-clause-serves : goal.returns-in-Ok-clause-serves
+returns-in-Ok-clause-serves g c = λ s t.
     let told = c.in-Ok.ensures.told t in
-    serves-all (state_of c.in-Ok.warehouse) (g.T.Site.state c.args.site.now) (g.T.Site.state c.begin.new.site) (g.T.Site.state c.converse_by_metric.new.site) (g.S.Source.left c.args.source.now) c.converse_by_metric.result told.store told.said
-    (c.converse_by_metric.ensures.answers s t fine)
-
-pub returns-in-Ok-clause-whole : goal.returns-in-Ok-clause-whole
-returns-in-Ok-clause-whole g c = λ s t fault.
-    let told = c.in-Ok.ensures.told t in
-    serves-whole (state_of c.in-Ok.warehouse) (g.T.Site.state c.args.site.now) (g.T.Site.state c.begin.new.site) (g.T.Site.state c.converse_by_metric.new.site) (g.S.Source.left c.args.source.now) (g.S.Source.left c.converse_by_metric.new.source)
-    told.store told.said (c.converse_by_metric.ensures.whole s t fault)
+    let talked = c.converse_by_metric.ensures in
+    let w = state_of c.in-Ok.warehouse in
+    let start = g.T.Site.state c.args.site.now in
+    let opened = g.T.Site.state c.begin.new.site in
+    let end = g.T.Site.state c.converse_by_metric.new.site in
+    let input = g.S.Source.left c.args.source.now in
+    record {
+      answers = λ fine.
+          serves-all w start opened end input c.converse_by_metric.result told.store told.said (talked.answers s t fine);
+      whole = λ fault.
+          serves-whole w start opened end input (g.S.Source.left c.converse_by_metric.new.source) told.store told.said
+          (talked.whole s t fault);
+      crash =
+          serves-moments c.same_openings_are_alike.ensures w start opened end input told.store told.safe told.said
+          (talked.moments s t);
+      end = λ ended.
+          serves-kept w start opened end input told.store (talked.end s t (no-fault c.converse_by_metric.result ended));
+      settled = λ sound fault.
+          serves-settled w start opened end input told.store told.said (talked.settled s t fault);
+    }
 
 pub returns-in-Ok-clause-complete : goal.returns-in-Ok-clause-complete
 returns-in-Ok-clause-complete g c = λ s t no_source no_site.
+    let start = g.T.Site.faults c.args.site.now in
+    let opened = g.T.Site.faults c.begin.new.site in
+    let end = g.T.Site.faults c.converse_by_metric.new.site in
     completes c.converse_by_metric.result (session (g.T.Site.state c.args.site.now).content (g.S.Source.left c.args.source.now)).status
-    (Rose (g.S.Source.faults c.args.source.now) (g.S.Source.faults c.converse_by_metric.new.source)) (Rose (g.T.Site.faults c.args.site.now) (g.T.Site.faults c.converse_by_metric.new.site))
-    (λ fine. (returns-in-Ok-clause-answers g c s t fine).status)
-    (λ site. rose-later (g.T.Site.faults c.args.site.now) (g.T.Site.faults c.begin.new.site) (g.T.Site.faults c.converse_by_metric.new.site) c.begin.ensures.cause.later (c.converse_by_metric.ensures.site site))
+    (Rose (g.S.Source.faults c.args.source.now) (g.S.Source.faults c.converse_by_metric.new.source)) (Rose start end)
+    (λ fine. ((returns-in-Ok-clause-serves g c s t).answers fine).status)
+    (λ site. rose-later start opened end c.begin.ensures.cause.later (c.converse_by_metric.ensures.site site))
     c.converse_by_metric.ensures.source no_source no_site
 
-pub returns-in-Ok-clause-crash : goal.returns-in-Ok-clause-crash
-returns-in-Ok-clause-crash g c = λ s t.
-    let told = c.in-Ok.ensures.told t in
-    serves-moments c.same_openings_are_alike.ensures (state_of c.in-Ok.warehouse) (g.T.Site.state c.args.site.now) (g.T.Site.state c.begin.new.site) (g.T.Site.state c.converse_by_metric.new.site) (g.S.Source.left c.args.source.now)
-    told.store told.safe told.said (c.converse_by_metric.ensures.moments s t)
+pub returns-in-Ok-clause-unopened : goal.returns-in-Ok-clause-unopened
+returns-in-Ok-clause-unopened g c = λ t. record {
+  untouched = λ shut. absurd (shut (c.in-Ok.ensures.told t).store.opens);
+  unbegun = λ broken. never-unopened c.converse_by_metric.result c.converse_by_metric.ensures.status broken;
+}
 
-pub returns-in-Ok-clause-end : goal.returns-in-Ok-clause-end
-returns-in-Ok-clause-end g c = λ s t ended.
-    let told = c.in-Ok.ensures.told t in
-    serves-kept (state_of c.in-Ok.warehouse) (g.T.Site.state c.args.site.now) (g.T.Site.state c.begin.new.site) (g.T.Site.state c.converse_by_metric.new.site) (g.S.Source.left c.args.source.now) told.store
-    (c.converse_by_metric.ensures.end s t (no-fault c.converse_by_metric.result ended))
-
-pub returns-in-Ok-clause-settled : goal.returns-in-Ok-clause-settled
-returns-in-Ok-clause-settled g c = λ s t sound fault.
-    let told = c.in-Ok.ensures.told t in
-    serves-settled (state_of c.in-Ok.warehouse) (g.T.Site.state c.args.site.now) (g.T.Site.state c.begin.new.site) (g.T.Site.state c.converse_by_metric.new.site) (g.S.Source.left c.args.source.now) told.store told.said
-    (c.converse_by_metric.ensures.settled s t fault)
-
-pub returns-in-Err-clause-answers : goal.returns-in-Err-clause-answers
-returns-in-Err-clause-answers g c = λ s t fine.
+pub returns-in-Err-clause-serves : goal.returns-in-Err-clause-serves
+returns-in-Err-clause-serves g c = λ s t.
     let told = c.in-Err.ensures.told t in
-    let status = c.say_fault.ensures.status fine in
-    refuses-all c.in-Err.fault (g.T.Site.state c.args.site.now) (g.T.Site.state c.begin.new.site) (g.T.Site.state c.say_fault.new.site) (g.S.Source.left c.args.source.now) c.say_fault.result (told.store status.0) told.said (c.say_fault.ensures.said t fine) status.1
-
-pub returns-in-Err-clause-crash : goal.returns-in-Err-clause-crash
-returns-in-Err-clause-crash g c = λ s t.
-    let told = c.in-Err.ensures.told t in
+    let said = c.say_fault.ensures in
     let alike = c.same_openings_are_alike.ensures in
-    let a = g.T.Site.state c.args.site.now in
+    let start = g.T.Site.state c.args.site.now in
+    let opened = g.T.Site.state c.begin.new.site in
+    let end = g.T.Site.state c.say_fault.new.site in
     let input = g.S.Source.left c.args.source.now in
-    ⊎_elim
-    (λ out. let P : g.row.T.Denot → Type 0 = λ x. Safe a (g.T.Site.state x) (IsMoment input a) in
-    subst P (sym (c.say_fault.ensures.still out)) (opening-moments alike a (g.T.Site.state c.begin.new.site) input told.safe))
-    (λ inside. refuses-moments alike c.in-Err.fault a (g.T.Site.state c.begin.new.site) (g.T.Site.state c.say_fault.new.site) input (told.store inside) told.safe told.said (told.holds (not-site c.in-Err.fault inside)) (c.say_fault.ensures.moments t))
-    (outside c.in-Err.fault)
+    let fault = c.in-Err.fault in
+    let result = c.say_fault.result in
+    record {
+      answers = λ fine.
+          let status = said.status fine in
+          refuses-all fault start opened end input result (told.store status.0) told.said (said.said t fine) status.1;
+      whole = λ source. never-source result said.answers source;
+      crash = ⊎_elim
+          (λ out.
+          let P : g.row.T.Denot → Type 0 = λ x. Safe start (g.T.Site.state x) (IsMoment input start) in
+          subst P (sym (said.still out)) (opening-moments alike start opened input told.safe))
+          (λ inside.
+          refuses-moments alike fault start opened end input (told.store inside) told.safe told.said
+          (told.holds (not-site fault inside)) (said.moments t))
+          (outside fault);
+      end = λ ended. never-ended result said.answers ended;
+      settled = λ sound ended.
+          let memory = ⊎_elim (λ source. never-source result said.answers source) (λ m. m) ended in
+          let P : g.row.T.Denot → Type 0 = λ x. IsSettled input start (g.T.Site.state x) in
+          subst P (sym (said.quiet memory)) (opening-settled alike start opened input sound told.safe told.said);
+    }
 
 pub returns-in-Err-clause-complete : goal.returns-in-Err-clause-complete
 returns-in-Err-clause-complete g c = λ s t no_source no_site.
+    let start = g.T.Site.faults c.args.site.now in
+    let opened = g.T.Site.faults c.begin.new.site in
+    let end = g.T.Site.faults c.say_fault.new.site in
     completes c.say_fault.result (session (g.T.Site.state c.args.site.now).content (g.S.Source.left c.args.source.now)).status
-    (Rose (g.S.Source.faults c.args.source.now) (g.S.Source.faults c.args.source.now)) (Rose (g.T.Site.faults c.args.site.now) (g.T.Site.faults c.say_fault.new.site))
-    (λ fine. (returns-in-Err-clause-answers g c s t fine).status)
+    (Rose (g.S.Source.faults c.args.source.now) (g.S.Source.faults c.args.source.now)) (Rose start end)
+    (λ fine. ((returns-in-Err-clause-serves g c s t).answers fine).status)
     (λ site. ⊎_elim
-    (λ fault. rose-before (g.T.Site.faults c.args.site.now) (g.T.Site.faults c.begin.new.site) (g.T.Site.faults c.say_fault.new.site) (c.in-Err.ensures.cause.failed fault) c.say_fault.ensures.later)
-    (λ rose. rose-later (g.T.Site.faults c.args.site.now) (g.T.Site.faults c.begin.new.site) (g.T.Site.faults c.say_fault.new.site) c.begin.ensures.cause.later rose)
+    (λ fault. rose-before start opened end (c.in-Err.ensures.cause.failed fault) c.say_fault.ensures.later)
+    (λ rose. rose-later start opened end c.begin.ensures.cause.later rose)
     (c.say_fault.ensures.fault site))
     (λ source. never-source c.say_fault.result c.say_fault.ensures.answers source) no_source no_site
 
-pub returns-in-Err-clause-settled : goal.returns-in-Err-clause-settled
-returns-in-Err-clause-settled g c = λ s t sound ended.
+pub returns-in-Err-clause-unopened : goal.returns-in-Err-clause-unopened
+returns-in-Err-clause-unopened g c = λ t.
     let told = c.in-Err.ensures.told t in
-    let a = g.T.Site.state c.args.site.now in
-    let input = g.S.Source.left c.args.source.now in
-    let memory = ⊎_elim (λ source. never-source c.say_fault.result c.say_fault.ensures.answers source) (λ m. m) ended in
-    let P : g.row.T.Denot → Type 0 = λ x. IsSettled input a (g.T.Site.state x) in
-    subst P (sym (c.say_fault.ensures.quiet memory)) (opening-settled c.same_openings_are_alike.ensures a (g.T.Site.state c.begin.new.site) input sound told.safe told.said)
+    let safe =
+    untouched-moments (g.T.Site.state c.args.site.now) (g.T.Site.state c.begin.new.site) (g.T.Site.state c.say_fault.new.site)
+    (refusal_course c.in-Err.fault).ending told.safe (c.say_fault.ensures.moments t) in
+    record { untouched = λ shut. safe; unbegun = λ broken. safe }
 
 pub returns-in-Ok-clause-joins : goal.returns-in-Ok-clause-joins
 returns-in-Ok-clause-joins g c = λ t. joins_on (g.T.Site.state c.args.site.now) (g.T.Site.state c.begin.new.site) (g.T.Site.state c.converse_by_metric.new.site) (c.begin.ensures.told t).safe.joins (c.converse_by_metric.ensures.joins t)

@@ -1,6 +1,8 @@
+//! Single runs on inputs in memory, and what the other tables share.
+
 ghost use Rattle.std.specs.Prelude.{◌≡◌, ◌<◌};
 
-use crate::{Status, run};
+use session_desk::{Status, run};
 use site_disk::{MemSite, MemSource};
 use std::alloc::{AllocError, Global};
 use std::marker::Brand;

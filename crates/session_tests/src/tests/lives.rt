@@ -1,6 +1,6 @@
 //! Runs one after another over one file.
 use super::{Outcome, bytes_of, ended, run_in_memory, words_of};
-use crate::Status;
+use session_desk::Status;
 use site_disk::{MemSite, MemSource};
 use std::alloc::AllocError;
 use std::test::Fail;

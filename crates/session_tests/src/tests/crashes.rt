@@ -1,6 +1,6 @@
 //! Sessions that a device or a source breaks off, and what the store holds then.
 use super::{bytes_of, failing, run_in_memory, words_of};
-use crate::Status;
+use session_desk::Status;
 use site_disk::{MemSite, MemSource};
 use std::alloc::{AllocError, Global};
 use std::test::Fail;

@@ -1,6 +1,6 @@
 //! Files that were made or changed by hand, and inputs and lines of the greatest length.
 use super::{bytes_of, ended, repeated, run_in_memory, words_of};
-use crate::Status;
+use session_desk::Status;
 use site_disk::{MemSite, MemSource, Site};
 use std::alloc::{AllocError, Global};
 use std::test::Fail;
