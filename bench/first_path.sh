@@ -1,6 +1,11 @@
 #!/usr/bin/env bash
-# Time per pair of records and greatest memory of `once` on 2,000 and 20,000 one-dimensional records.
-# Wants the built program: make demo. Prints one line a size.
+# What `once` takes, all told: start, reading, clustering and the report. Wants the built program: make demo.
+#   - one-dimensional records, 2,000 and 20,000: time for each of the n * n pairs, and the greatest memory
+#   - 20,000 hashes of 64 bits and 20,000 vectors of 128 bytes, most alone and the rest in groups: processor
+#     time, beside all pairs in plain C (each pair once, -O3 -march=native, wants clang) on vectors that lie in
+#     memory, and beside scikit-learn where python3 has it
+# RIVAL may name a further program, run as RIVAL scratch METRIC DIM EPS MINPTS N WIDTH FILE OUT, which says fit_s.
+# Of five runs in turn the least counts.
 set -eu
 top=$(cd "$(dirname "$0")/.." && pwd)
 program=$top/crates/densewh/out/densewh
@@ -8,25 +13,171 @@ program=$top/crates/densewh/out/densewh
 work=$(mktemp -d)
 trap 'rm -rf "$work"' EXIT
 grep -m1 'model name' /proc/cpuinfo | sed 's/.*: /processor: /'
+
+cat >"$work/pairs.c" <<'C'
+// Sizes by all pairs, then the labels of the cores by joining those that are near: METRIC N WIDTH EPS MINPTS FILE.
+#include <stdint.h>
+#include <stdio.h>
+#include <stdlib.h>
+#include <string.h>
+
+static uint8_t *rows;
+static uint32_t *size, *root;
+static size_t width;
+static uint32_t eps;
+
+static int near_bits(const uint8_t *a, const uint8_t *b) {
+    uint32_t total = 0;
+    for (size_t i = 0; i < width; i += 8) {
+        uint64_t x, y;
+        memcpy(&x, a + i, 8);
+        memcpy(&y, b + i, 8);
+        total += __builtin_popcountll(x ^ y);
+    }
+    return total <= eps;
+}
+
+static int near_sum(const uint8_t *a, const uint8_t *b) {
+    uint32_t total = 0;
+    for (size_t i = 0; i < width; i += 32) {
+        for (size_t j = 0; j < 32; j++) total += abs((int)a[i + j] - (int)b[i + j]);
+        if (total > eps) return 0;
+    }
+    return 1;
+}
+
+static uint32_t find(uint32_t i) {
+    while (root[i] != i) i = root[i] = root[root[i]];
+    return i;
+}
+
+int main(int count, char **words) {
+    int (*near)(const uint8_t *, const uint8_t *) = words[1][0] == 'h' ? near_bits : near_sum;
+    uint32_t n = atoi(words[2]), minpts = atoi(words[5]), clusters = 0;
+    width = atoi(words[3]);
+    eps = atoi(words[4]);
+    rows = malloc(n * width);
+    size = calloc(n, 4);
+    root = malloc(4 * n);
+    FILE *file = fopen(words[6], "rb");
+    if (!file || fread(rows, width, n, file) != n) return 1;
+    for (uint32_t i = 0; i < n; i++) {
+        size[i]++;
+        root[i] = i;
+        for (uint32_t j = 0; j < i; j++)
+            if (near(rows + i * width, rows + j * width)) size[i]++, size[j]++;
+    }
+    for (uint32_t i = 0; i < n; i++)
+        for (uint32_t j = 0; size[i] >= minpts && j < i; j++)
+            if (size[j] >= minpts && near(rows + i * width, rows + j * width)) {
+                uint32_t a = find(i), b = find(j);
+                root[a > b ? a : b] = a > b ? b : a;
+            }
+    for (uint32_t i = 0; i < n; i++) clusters += size[i] >= minpts && find(i) == i;
+    printf("clusters %u\n", clusters);
+    return 0;
+}
+C
+clang -O3 -march=native -o "$work/pairs" "$work/pairs.c" 2>/dev/null || echo "without clang: no rival in C"
+
 python3 - "$program" "$work" <<'PY'
-import random, resource, subprocess, sys, time
+import os, random, resource, subprocess, sys, time
 program, work = sys.argv[1], sys.argv[2]
-# One cluster of cores; cores of many clusters beside noise; no core at all.
-for count in (2000, 20000):
-    for name, eps, minpts in (("one", 1, 2), ("many", 0, count // 260), ("noise", 0, 65535)):
-        random.seed(count)
-        path = f"{work}/{name}{count}"
-        with open(path, "w") as f:
-            for i in range(count):
-                f.write(f"+,{i + 1},{random.randrange(256)}\n")
-        best = None
-        for _ in range(3):
-            with open(path) as f:
-                start = time.perf_counter()
-                done = subprocess.run([program, "once", "l1", "1", str(eps), str(minpts)], stdin=f, capture_output=True, text=True)
-                took = time.perf_counter() - start
-            best = took if best is None else min(best, took)
-        last = done.stdout.strip().splitlines()[-1]
-        peak = resource.getrusage(resource.RUSAGE_CHILDREN).ru_maxrss / 1024
-        print(f"{count:6} {name:8} {best * 1e9 / count ** 2:6.2f} ns a pair  {best:7.3f} s  {peak:6.1f} MB so far  {last}")
+
+
+def seconds(words, path=None):
+    """Processor seconds of a program, and the last line that it says."""
+    before = resource.getrusage(resource.RUSAGE_CHILDREN)
+    with open(path or os.devnull) as file:
+        done = subprocess.run(words, stdin=file, capture_output=True, text=True)
+    after = resource.getrusage(resource.RUSAGE_CHILDREN)
+    took = after.ru_utime + after.ru_stime - before.ru_utime - before.ru_stime
+    return took, (done.stdout.strip().splitlines() or [""])[-1]
+
+
+def one_dimension():
+    # One cluster of cores; cores of many clusters beside noise; no core at all.
+    for count in (2000, 20000):
+        for name, eps, minpts in (("one", 1, 2), ("many", 0, count // 260), ("noise", 0, 65535)):
+            random.seed(count)
+            path = f"{work}/{name}{count}"
+            with open(path, "w") as f:
+                for i in range(count):
+                    f.write(f"+,{i + 1},{random.randrange(256)}\n")
+            runs = [seconds([program, "once", "l1", "1", str(eps), str(minpts)], path) for _ in range(3)]
+            best, last = min(runs)
+            peak = resource.getrusage(resource.RUSAGE_CHILDREN).ru_maxrss / 1024
+            print(f"{count:6} {name:8} {best * 1e9 / count ** 2:6.2f} ns a pair  {best:7.3f} s  {peak:6.1f} MB so far  {last}")
+
+
+def grouped(count, new, changed):
+    """Vectors of which three in five are alone and the others lie in groups of 2 to 40."""
+    rows = [new() for _ in range(3 * count // 5)]
+    while len(rows) < count:
+        centre = new()
+        rows.extend(changed(centre) for _ in range(min(random.choice((2, 3, 4, 6, 10, 40)), count - len(rows))))
+    random.shuffle(rows)
+    return rows
+
+
+def flipped(hash):
+    for bit in random.sample(range(64), random.randrange(1, 5)):
+        hash ^= 1 << bit
+    return hash
+
+
+def moved(row):
+    return bytes(min(255, max(0, x + random.randrange(-3, 4))) for x in row)
+
+
+def wide():
+    random.seed(1)
+    hashes = grouped(20000, lambda: random.getrandbits(64), flipped)
+    vectors = grouped(20000, lambda: random.randbytes(128), moved)
+    # A spelled bit 0 is the first byte's greatest, as the program has it.
+    inputs = [
+        ("hamming", 64, 8, 8, 3, [h.to_bytes(8, "big") for h in hashes], lambda r: format(int.from_bytes(r, "big"), "064b")),
+        ("l1", 128, 128, 700, 3, vectors, lambda r: ",".join(map(str, r))),
+    ]
+    for metric, dim, width, eps, minpts, rows, spelled in inputs:
+        path, flat = f"{work}/{metric}.csv", f"{work}/{metric}.bin"
+        with open(path, "w") as file:
+            file.writelines(f"+,{i + 1},{spelled(row)}\n" for i, row in enumerate(rows))
+        with open(flat, "wb") as file:
+            file.write(b"".join(rows))
+        rivals = {"once": ([program, "once", metric, str(dim), str(eps), str(minpts)], path)}
+        if os.path.exists(f"{work}/pairs"):
+            rivals["pairs in C"] = ([f"{work}/pairs", metric, str(len(rows)), str(width), str(eps), str(minpts), flat], None)
+        if os.environ.get("RIVAL"):
+            words = ["scratch", metric, str(dim), str(eps), str(minpts), str(len(rows)), str(width), flat, f"{work}/out"]
+            rivals["RIVAL"] = ([os.environ["RIVAL"], *words], None)
+        least = {}
+        for _ in range(5):
+            for name, (words, given) in rivals.items():
+                took, last = seconds(words, given)
+                least[name] = min(least.get(name, (took, last)), (took, last))
+        print(f"{len(rows)} of {width} bytes, {metric}: {least['once'][1]}")
+        for name, (took, last) in least.items():
+            print(f"  {name:12} {took:7.3f} s  {least['once'][0] / took:5.2f} times  {last if name != 'once' else ''}")
+        learn(metric, rows, eps, minpts, least["once"][0])
+
+
+def learn(metric, rows, eps, minpts, ours):
+    try:
+        import numpy
+        from sklearn.cluster import DBSCAN
+    except ImportError:
+        return
+    table = numpy.frombuffer(b"".join(rows), dtype=numpy.uint8).reshape(len(rows), -1)
+    name, reach = ("manhattan", eps)
+    if metric == "hamming":
+        table, name, reach = numpy.unpackbits(table, axis=1), "hamming", (eps + 0.5) / 64
+    start = time.process_time()
+    DBSCAN(eps=reach, min_samples=minpts, metric=name, algorithm="brute").fit(table)
+    took = time.process_time() - start
+    print(f"  scikit-learn {took:7.3f} s  {ours / took:5.2f} times")
+
+
+one_dimension()
+wide()
 PY
