@@ -16,3 +16,4 @@ pub mod Tags
 pub mod Bounds
 pub mod Steps
 pub mod Root
+pub mod Columns

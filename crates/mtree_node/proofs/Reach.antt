@@ -1,5 +1,5 @@
 -- Whether a radius reaches, one entry after the other.
-use Rattle.std.proofs.Common.{◌≡◌, ℕ, zero, suc, ◌-◌, ◌<◌, ◌≤◌, true, false, ◌&&◌, List, [], ◌∷◌, ◌++◌, length, get_or, Option, Some, refl, sym, ap, subst, ◌∙◌, ◌+◌, length-append, arith, inl, inr}
+use Rattle.std.proofs.Common.{◌≡◌, ℕ, zero, suc, ◌-◌, ◌<◌, ◌≤◌, true, false, ◌&&◌, List, [], ◌∷◌, ◌++◌, length, get_or, Option, None, Some, refl, sym, ap, subst, ◌∙◌, ◌+◌, length-append, arith, inl, inr}
 use Rattle.std.specs.List.{AllByRecursion, flat_map}
 use Rattle.std.specs.Prelude.{nat_le}
 use Rattle.std.proofs.lemmas.Bool.Decides.{leb_tells}
@@ -9,7 +9,7 @@ use Rattle.mtree_node.specs.declared.node.Node.{Node}
 use Rattle.mtree_node.specs.declared.node.Node.TheOpen.{Node-F}
 use Rattle.mtree_node.specs.declared.node.Node.TheVariants as node
 use Rattle.mtree_node.specs.Layer.{Layer}
-use Rattle.mtree_node.specs.Tree.{leaves, leaves_in, IsNode, IsNodeIn, IsLeafEntry, IsInnerEntry}
+use Rattle.mtree_node.specs.Tree.{leaves, leaves_in, IsFilled, IsNode, IsNodeIn, IsLeafEntry, IsInnerEntry}
 use Rattle.mtree_node.specs.Walk.{reaches}
 use Rattle.mtree_node.proofs.Sizes.{all_weaker}
 use Rattle.mtree_node.proofs.Opened.{opened_leaf, opened_inner}
@@ -52,6 +52,16 @@ module _ (dist : List ℕ → List ℕ → ℕ) (w greatest : ℕ) where
 
   abbrev OpenNode : ℕ → Option (List ℕ) → Layer → Type 0
   OpenNode k over = IsNodeIn dist w greatest k (λ object m. IsNode dist w greatest k (Some object) m) (leaves k) over
+
+  filled_few : (over : Option (List ℕ)) (low n : ℕ) → IsFilled over low n → n ≤ 30
+  filled_few None low n f = f.1
+  filled_few (Some object) low n f = f.1
+
+  -- a leaf has few entries
+  pub leaf_room : (h : ℕ) (over : Option (List ℕ)) (n : Node) (tag : ℕ) (es : List LeafEntry) → n ≡ node.Leaf tag es → IsNode dist w greatest h over n → length es ≤ 30
+  leaf_room h over n tag es is s =
+      let here : OpenNode (h - 1) over (Node-F.Leaf tag es) = subst (OpenNode (h - 1) over) (opened_leaf n tag es is) (subst (λ k. IsNode dist w greatest k over n) (node_level h over n s) s) in
+      filled_few over 1 (length es) here.1
 
   -- the vectors of a leaf
   pub leaf_widths : (h : ℕ) (over : Option (List ℕ)) (n : Node) (tag : ℕ) (es : List LeafEntry) → n ≡ node.Leaf tag es → IsNode dist w greatest h over n → AllByRecursion (λ e. length e.vector ≡ w) es

@@ -5,3 +5,5 @@ pub mod Preorder
 pub mod Walk
 pub mod Progress
 pub mod Laws
+pub mod Lists
+pub mod inside

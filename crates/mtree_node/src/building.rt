@@ -9,12 +9,15 @@ ghost use Rattle.mtree_node.specs.declared.node.Node.{Node as PlainNode};
 ghost use Rattle.mtree_node.specs.declared.shape.Shape.{Shape as PlainShape};
 ghost use Rattle.mtree_node.specs.declared.shape.BadPlace.{BadPlace as Place};
 ghost use Rattle.mtree_node.specs.declared.shape.BuildFault.TheVariants.{Bad};
+ghost use Rattle.mtree_node.specs.Lists.{HaveVectorsOf};
 ghost use Rattle.mtree_node.specs.Tree.{leaves, parent_distance, IsNode};
 ghost use Rattle.mtree_node.specs.Walk.{Fails, Builds, bad_place, is_filled, is_of_level, walk_all, walk_leaf_row, walk_inner_row, reaches, walk, first_failing, IsTreeOf, HasObjectsIn, CanBeBuilt};
 ghost use Rattle.mtree_node.specs.Progress.{standing, ahead, IsOver, IsInnerRow, HasVectorsIn, IsWhole, IsPart};
 
 use crate::progress::Progress;
-use crate::{BadPlace, BadWhat, BuildFault, InnerEntry, LeafEntry, Node, Shape, Shapes};
+use crate::{
+    BadPlace, BadWhat, BuildFault, InnerEntry, LeafEntries, LeafEntry, Node, Shape, Shapes,
+};
 use items::{Boxed, Items};
 use std::alloc::{AllocError, Global};
 use std::sync::ledger::Ledger;
@@ -82,6 +85,7 @@ fn build_leaf_entry<M: Metric, L: Ledger>(
     ensures next { progress.new.next ≡ progress.old.next }
     ensures ok { IfOk result (λ e. (rest : List PlainShape) → walk_leaf_row M.dist place (option_copied over.entry) entry row.now (standing rest progress.old) ≡ Builds e (standing rest progress.new)) }
     ensures bad { (p : Place) → result ≡ Err (Bad p) → (rest : List PlainShape) → walk_leaf_row M.dist place (option_copied over.entry) entry row.now (standing rest progress.old) ≡ Fails p }
+    ensures vector { IfOk result (λ e. length e.vector ≡ progress.old.left.width) }
     ensures counted { steps.new + finite.len progress.new.left.vectors ≤ steps.old + finite.len progress.old.left.vectors }
 {
     let (number, parent) = *row;
@@ -105,7 +109,7 @@ fn build_leaf<M: Metric, L: Ledger>(
     over: Option<&Vector>,
     progress: &mut Progress,
     steps: &mut Steps<L>,
-) -> Result<Items<LeafEntry>, BuildFault>
+) -> Result<LeafEntries, BuildFault>
     requires few { length rows.now ≤ 30 }
     requires width { IsWidth progress.old.left.width }
     requires vectors { HaveWidth progress.old.left.width progress.old.left.vectors }
@@ -118,10 +122,10 @@ fn build_leaf<M: Metric, L: Ledger>(
     ensures bad { (p : Place) → result ≡ Err (Bad p) → (rest : List PlainShape) → walk_all (walk_leaf_row M.dist place (option_copied over.entry)) 0 rows.now (standing rest progress.old) ≡ Fails p }
     ensures counted { steps.new + finite.len progress.new.left.vectors ≤ steps.old + finite.len progress.old.left.vectors }
 {
-    let mut entries = Items::new(alloc);
+    let mut entries = LeafEntries::new(alloc);
     for (i, row) in rows.iter().enumerate() {
         let entry = build_leaf_entry::<M, L>(row, place, i as u32, over, progress, steps)?;
-        entries.push(entry)?;
+        entries.push(entry.number, entry.parent, entry.vector.as_slice())?;
     }
     Ok(entries)
 }
@@ -130,16 +134,17 @@ fn build_leaf<M: Metric, L: Ledger>(
 fn reaches_leaf<M: Metric, L: Ledger>(
     object: &Vector,
     radius: u32,
-    entries: &[LeafEntry],
+    entries: &LeafEntries,
     steps: &mut Steps<L>,
 ) -> bool
     requires width { IsWidth (length object.now) }
-    requires vectors { AllByRecursion (λ e. length e.vector ≡ length object.now) entries.now }
+    requires few { length entries.now ≤ 30 }
+    requires vectors { HaveVectorsOf (length object.now) entries.now }
     ensures is { result ≡ reaches M.dist object.now radius entries.now }
     ensures counted { steps.new ≤ steps.old + length entries.now }
 {
-    for entry in entries {
-        if M::distance(object, &entry.vector, steps) > radius {
+    for at in 0..entries.len() {
+        if entries.distance::<M, L>(object, at, steps) > radius {
             return false;
         }
     }
@@ -182,9 +187,7 @@ fn reaches<M: Metric, L: Ledger>(
     ensures counted { steps.new ≤ steps.old + length (leaves level node.now) }
 {
     match node {
-        Node::Leaf { tag: _, entries } => {
-            reaches_leaf::<M, L>(object, radius, entries.as_slice(), steps)
-        }
+        Node::Leaf { tag: _, entries } => { reaches_leaf::<M, L>(object, radius, entries, steps) }
         Node::Inner { tag: _, entries } => {
             reaches_below::<M, L>(object, radius, level - 1, entries.as_slice(), steps)
         }

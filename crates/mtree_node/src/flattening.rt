@@ -4,8 +4,9 @@ ghost use Rattle.mtree_node.specs.declared.node.InnerEntry.{out-InnerEntry};
 ghost use Rattle.mtree_node.specs.Tree.{IsLeveled, IsLevel};
 ghost use Rattle.mtree_node.specs.Preorder.{size, leaf_row, inner_rows, shapes_below, shapes_from, preorder};
 
+use crate::leaf_entries::LeafEntries;
 use crate::levels::height;
-use crate::node::{InnerEntry, LeafEntry, Node};
+use crate::node::{InnerEntry, Node};
 use crate::shape::{InnerShape, LeafShape, Shape, Shapes};
 use items::Items;
 use std::alloc::{AllocError, Global};
@@ -38,12 +39,12 @@ fn size_below(entries: &[InnerEntry], levels: u32) -> u32
     total
 }
 
-fn leaf_rows(alloc: Global, entries: &[LeafEntry]) -> Result<LeafShape, AllocError>
+fn leaf_rows(alloc: Global, entries: &LeafEntries) -> Result<LeafShape, AllocError>
     ensures { IfOk result (λ rows. rows ≡ map leaf_row entries.now) }
 {
     let mut rows = Items::new(alloc);
-    for entry in entries {
-        rows.push((entry.number, entry.parent))?;
+    for at in 0..entries.len() {
+        rows.push((entries.numbers()[at], entries.parents()[at]))?;
     }
     Ok(rows)
 }
@@ -96,7 +97,7 @@ fn push_node(alloc: Global, node: &Node, levels: u32, shapes: &mut Shapes) -> Re
 {
     match node {
         Node::Leaf { tag, entries } => {
-            let rows = leaf_rows(alloc, entries.as_slice())?;
+            let rows = leaf_rows(alloc, entries)?;
             shapes.push(Shape::Leaf { tag: *tag, rows })
         }
         Node::Inner { tag, entries } => {

@@ -13,6 +13,7 @@ mod build_tests;
 mod building;
 mod flattening;
 pub mod laws;
+mod leaf_entries;
 mod levels;
 mod node;
 mod progress;
@@ -25,6 +26,7 @@ mod tests;
 
 pub use building::build;
 pub use flattening::flatten;
+pub use leaf_entries::LeafEntries;
 pub use levels::height;
 pub use node::{InnerEntry, LeafEntry, Node};
 pub use retagging::retag;

@@ -1,3 +1,4 @@
+use crate::leaf_entries::LeafEntries;
 use items::{Boxed, Items};
 use vec_record::{Number, Vector};
 
@@ -30,7 +31,7 @@ pub struct InnerEntry {
 pub enum Node {
     Leaf {
         tag: u32,
-        entries: Items<LeafEntry>,
+        entries: LeafEntries,
     },
     Inner {
         tag: u32,

@@ -3,7 +3,7 @@ ghost use Rattle.mtree_node.specs.declared.node.InnerEntry.{out-InnerEntry};
 ghost use Rattle.mtree_node.specs.Tree.{IsLeveled};
 ghost use Rattle.mtree_node.specs.Preorder.{size};
 
-use crate::{InnerEntry, LeafEntry, Node, Shape, Shapes, flatten, height, retag};
+use crate::{InnerEntry, LeafEntries, Node, Shape, Shapes, flatten, height, retag};
 use items::{Boxed, Items};
 use std::alloc::{AllocError, Global};
 use std::test::Fail;
@@ -33,14 +33,6 @@ const AFTER: [u32; 46] = [
     0, 16, 1, 4, 0,
 ];
 
-fn leaf_entry(alloc: Global, number: u32, byte: u8, parent: u32) -> Result<LeafEntry, AllocError> {
-    Ok(LeafEntry {
-        number,
-        vector: Vector::from_slice(alloc, &[byte])?,
-        parent,
-    })
-}
-
 fn inner_entry(
     alloc: Global,
     byte: u8,
@@ -62,8 +54,8 @@ fn leaf_of_one(alloc: Global, tag: u32, number: u32, byte: u8) -> Result<Node, A
     ensures leveled { IfOk result (IsLeveled 1) }
     ensures size { IfOk result (λ n. size 1 n ≡ 1) }
 {
-    let mut entries = Items::new(alloc);
-    entries.push(leaf_entry(alloc, number, byte, 0)?)?;
+    let mut entries = LeafEntries::new(alloc);
+    entries.push(number, 0, &[byte])?;
     Ok(Node::Leaf { tag, entries })
 }
 
@@ -71,9 +63,9 @@ fn leaf_of_two(alloc: Global) -> Result<Node, AllocError>
     ensures leveled { IfOk result (IsLeveled 1) }
     ensures size { IfOk result (λ n. size 1 n ≡ 1) }
 {
-    let mut entries = Items::new(alloc);
-    entries.push(leaf_entry(alloc, 1, 10, 0)?)?;
-    entries.push(leaf_entry(alloc, 2, 12, 2)?)?;
+    let mut entries = LeafEntries::new(alloc);
+    entries.push(1, 0, &[10])?;
+    entries.push(2, 2, &[12])?;
     Ok(Node::Leaf { tag: 30, entries })
 }
 

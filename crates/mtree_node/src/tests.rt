@@ -1,7 +1,7 @@
 ghost use Rattle.std.specs.Prelude.{◌≡◌, IfOk};
 ghost use Rattle.mtree_node.specs.Tree.{IsLeveled};
 
-use crate::{InnerEntry, LeafEntry, Node, height};
+use crate::{InnerEntry, LeafEntries, Node, height};
 use items::{Boxed, Items};
 use std::alloc::{AllocError, Global};
 use std::test::Fail;
@@ -11,12 +11,8 @@ use vec_record::Vector;
 fn leaf(alloc: Global) -> Result<Node, AllocError>
     ensures { IfOk result (IsLeveled 1) }
 {
-    let mut entries = Items::new(alloc);
-    entries.push(LeafEntry {
-        number: 1,
-        vector: Vector::from_slice(alloc, &[7])?,
-        parent: 0,
-    })?;
+    let mut entries = LeafEntries::new(alloc);
+    entries.push(1, 0, &[7])?;
     Ok(Node::Leaf { tag: 0, entries })
 }
 

@@ -6,20 +6,23 @@ use Rattle.mtree_node.specs.declared.node.Node.{Node}
 use Rattle.mtree_node.specs.Tree.{leaves, IsNode}
 use Rattle.mtree_node.specs.Walk.{reaches}
 use Rattle.mtree_node.proofs.Rows.{next_row}
-use Rattle.mtree_node.proofs.Reach.{leaf_widths, inner_nodes, node_level, child_reached, child_stops, child_counted}
+use Rattle.mtree_node.proofs.Reach.{leaf_room, leaf_widths, inner_nodes, node_level, child_reached, child_stops, child_counted}
 use Rattle.mtree_node.proofs.building.+reach.Goals as goal
+
+pub reaches-reaches_leaf-requires-clause-few : goal.reaches-reaches_leaf-requires-clause-few
+reaches-reaches_leaf-requires-clause-few g t c =
+    leaf_room g.M.Metric.dist (length c.args.object.now) c.requires.node.0 c.args.level c.requires.node.1 c.args.node.now c.in-Leaf.tag c.in-Leaf.entries c.in-Leaf.is c.requires.node.2
 
 pub reaches-reaches_leaf-requires-clause-vectors :
     goal.reaches-reaches_leaf-requires-clause-vectors
 reaches-reaches_leaf-requires-clause-vectors g t c =
-    let w = length c.args.object.now in
-    subst (AllByRecursion (λ e. length e.vector ≡ w)) (sym c.as_slice.ensures) (leaf_widths g.M.Metric.dist w c.requires.node.0 c.args.level c.requires.node.1 c.args.node.now c.in-Leaf.tag c.in-Leaf.entries c.in-Leaf.is c.requires.node.2)
+    leaf_widths g.M.Metric.dist (length c.args.object.now) c.requires.node.0 c.args.level c.requires.node.1 c.args.node.now c.in-Leaf.tag c.in-Leaf.entries c.in-Leaf.is c.requires.node.2
 
 pub reaches-reaches_below-requires : goal.reaches-reaches_below-requires
 reaches-reaches_below-requires g t c κs within =
     let w = length c.args.object.now in
     let level = node_level g.M.Metric.dist w c.requires.node.0 c.args.level c.requires.node.1 c.args.node.now c.requires.node.2 in
-    let nodes = subst (AllByRecursion (λ e. (greatest : ℕ) × (over : Option (List ℕ)) × IsNode g.M.Metric.dist w greatest (c.args.level - 1) over (out-InnerEntry e).child)) (sym c.as_slice-in-Inner.ensures)
+    let nodes = subst (AllByRecursion (λ e. (greatest : ℕ) × (over : Option (List ℕ)) × IsNode g.M.Metric.dist w greatest (c.args.level - 1) over (out-InnerEntry e).child)) (sym c.as_slice.ensures)
     (inner_nodes g.M.Metric.dist w c.requires.node.0 c.args.level c.requires.node.1 c.args.node.now c.in-Inner.tag c.in-Inner.entries c.in-Inner.is c.requires.node.2) in
     (omega arith, (within.0, (within.1, (c.requires.width, nodes))))
 

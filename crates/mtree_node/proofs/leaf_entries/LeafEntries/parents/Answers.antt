@@ -1,0 +1,6 @@
+use Rattle.std.proofs.Common.{◌∙◌}
+use Rattle.mtree_node.proofs.Columns.{seen_parents}
+use Rattle.mtree_node.proofs.leaf_entries.LeafEntries.parents.Goals as goal
+
+pub returns : goal.returns
+returns c = c.deref.ensures.value ∙ seen_parents _ _ _ _ c.self.view_is c.self.invariant.0 c.self.invariant.1
