@@ -18,7 +18,7 @@ int_metric: vec_record
 plain_dbscan: vec_record
 items:
 mtree_split:
-mtree_node: vec_record items
+mtree_node: vec_record int_metric items
 mtree_index: vec_record int_metric items plain_dbscan mtree_split mtree_node
 tree_speed: vec_record int_metric plain_dbscan items mtree_node mtree_index
 CRATES
@@ -167,7 +167,7 @@ PLAIN
 # Proves, builds and runs both programs. Their lines are in "$work/here" and "$work/there".
 measure() {
     (cd "$program" && rt run >/dev/null 2>"$work/log") || { cat "$work/log"; exit 1; }
-    clang -O3 -o "$work/plain" "$work/plain.c" 2>/dev/null || cc -O3 -o "$work/plain" "$work/plain.c"
+    clang -O3 -march=x86-64-v2 -o "$work/plain" "$work/plain.c" 2>/dev/null || cc -O3 -march=x86-64-v2 -o "$work/plain" "$work/plain.c"
     cd "$work"
     "$program/out/tree_speed" >here
     "$work/plain" >there

@@ -1,5 +1,5 @@
 -- The rule of a range query passes over no vector that is near.
-use Rattle.std.proofs.Common.{◌≡◌, ℕ, zero, suc, ◌+◌, ◌<◌, ◌≤◌, true, false, cond, List, [], ◌∷◌, ◌++◌, Option, Some, None, refl, sym, arith, inl, inr, append_assoc}
+use Rattle.std.proofs.Common.{◌≡◌, ℕ, zero, suc, ◌+◌, ◌<◌, ◌≤◌, true, false, cond, List, [], ◌∷◌, ◌++◌, length, Option, Some, None, refl, sym, arith, inl, inr, append_assoc}
 use Rattle.std.specs.Prelude.{nat_le}
 use Rattle.std.specs.List.{AllByRecursion, flat_map}
 use Rattle.std.proofs.lemmas.Bool.Decides.{leb_tells}
@@ -11,7 +11,7 @@ use Rattle.mtree_node.specs.declared.node.InnerEntry.{InnerEntry, out-InnerEntry
 use Rattle.mtree_node.specs.declared.node.Node.{Node, out-Node}
 use Rattle.mtree_node.specs.declared.node.Node.TheOpen.{Node-F}
 use Rattle.mtree_node.specs.Layer.{Layer}
-use Rattle.mtree_node.specs.Tree.{leaves, leaves_in, parent_distance, IsLeafEntry, IsNode, IsNodeIn}
+use Rattle.mtree_node.specs.Tree.{leaves, leaves_in, parent_distance, IsFilled, IsLeafEntry, IsNode, IsNodeIn}
 use Rattle.mtree_node.specs.Cost.{is_skipped}
 use Rattle.mtree_index.specs.Found.{IsShaped, IsShapedIn, IsEntryOver, number_within, numbers_within, leaf_found, entry_found, found, found_in}
 use Rattle.mtree_index.proofs.Kept.{IsEntry, vectors_below}
@@ -32,10 +32,14 @@ numbers-append : (dist : List ℕ → List ℕ → ℕ) (q : List ℕ) (r : ℕ)
 numbers-append dist q r [] fs = refl
 numbers-append dist q r (e ∷ es) fs = rw (numbers-append dist q r es fs, append_assoc) refl
 
+filled_few : (over : Option (List ℕ)) (low n : ℕ) → IsFilled over low n → n ≤ 30
+filled_few None low n f = f.1
+filled_few (Some object) low n f = f.1
+
 module _ (dist : List ℕ → List ℕ → ℕ) (w greatest : ℕ) where
   shaped_in : (h : ℕ) → ((over : Option (List ℕ)) (n : Node) → IsNode dist w greatest h over n → IsShaped w h n)
       → (over : Option (List ℕ)) (n : Layer) → IsNodeIn dist w greatest h (λ object m. IsNode dist w greatest h (Some object) m) (leaves h) over n → IsShapedIn w h (IsShaped w h) n
-  shaped_in h ih over (Node-F.Leaf tag es) s = (s.0, all_weaker (IsLeafEntry dist w greatest over) _ es (λ e k. k.vector) s.2)
+  shaped_in h ih over (Node-F.Leaf tag es) s = (s.0, filled_few over 1 (length es) s.1, all_weaker (IsLeafEntry dist w greatest over) _ es (λ e k. k.vector) s.2)
   shaped_in h ih over (Node-F.Inner tag es) s =
       (s.0, all_weaker _ (λ e. IsEntryOver w (IsShaped w h) (out-InnerEntry e)) es (λ e k. record { object = k.object; child = ih (Some (out-InnerEntry e).object) (out-InnerEntry e).child k.child }) s.2)
 

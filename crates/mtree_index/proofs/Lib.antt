@@ -1,4 +1,5 @@
-mod AtPlaces
+pub mod Pruned
+pub mod Leaves
 pub mod Chosen
 pub mod Distinct
 pub mod Exact

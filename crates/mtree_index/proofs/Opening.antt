@@ -1,18 +1,20 @@
 -- What a removal and a query make of a node that was opened.
-use Rattle.std.proofs.Common.{◌≡◌, ℕ, zero, suc, ◌-◌, ◌<◌, ◌≤◌, Bool, true, false, List, [], ◌∷◌, length, Option, Some, None, refl, sym, ap, ◌∙◌, arith, inl, inr}
-use Rattle.std.specs.Prelude.{nat_lt}
+use Rattle.std.proofs.Common.{◌≡◌, ℕ, zero, suc, ◌-◌, ◌<◌, ◌≤◌, Bool, true, false, min, List, [], ◌∷◌, ◌++◌, length, Option, Some, None, refl, sym, ap, ◌∙◌, arith, inl, inr}
+use Rattle.std.specs.Prelude.{nat_lt, Result, Ok, Err, IfOk}
 use Rattle.std.specs.Option.{option_map}
 use Rattle.std.specs.List.{slice_get}
 use Rattle.std.proofs.lemmas.Bool.Decides.{leb_tells}
 use Rattle.mtree_node.specs.declared.node.LeafEntry.{LeafEntry}
-use Rattle.mtree_node.specs.declared.node.InnerEntry.{InnerEntry, out-InnerEntry}
+use Rattle.mtree_node.specs.declared.node.InnerEntry.{InnerEntry, out-InnerEntry, roll-InnerEntry}
 use Rattle.mtree_node.specs.declared.node.Node.{Node, out-Node}
 use Rattle.mtree_node.specs.declared.node.Node.TheOpen.{Node-F}
 use Rattle.mtree_node.specs.declared.node.Node.TheVariants as node
 use Rattle.mtree_node.proofs.Opened.{out_inner, opened_inner, opened_leaf}
-use Rattle.mtree_index.specs.Insertion.{Stays, settled_inner}
+use Rattle.mtree_index.specs.Insertion.{Stays, settled_inner, settled_leaf, outcome, entries_of}
+use Rattle.mtree_index.specs.declared.settle.Pair.{Pair}
+use Rattle.mtree_index.specs.Entries.{leaf_with_parent}
 use Rattle.mtree_index.specs.Joinable.{given}
-use Rattle.mtree_index.specs.Removal.{is_pair, without_first, first_changed, entry_without, size, is_short_at, joined_at, joined, refilled, removed, removed_in}
+use Rattle.mtree_index.specs.Removal.{is_pair, without_first, first_changed, entry_without, size, is_short_at, joined_at, joined, farthest, all_under, refilled, removed, removed_in}
 
 module _ (dist : List ℕ → List ℕ → ℕ) (greatest number : ℕ) (v : List ℕ) (over : Option (List ℕ)) (n : Node) (tag h k : ℕ) (level : h ≡ suc k) where
   pub removed_leaf : (es : List LeafEntry) → n ≡ node.Leaf tag es → removed dist greatest number v h over n ≡ option_map (node.Leaf tag) (without_first (is_pair dist v number over) es)
@@ -66,3 +68,19 @@ refilled_same dist greatest over place es s = sym (rw s refl)
 
 pub refilled_short : (dist : List ℕ → List ℕ → ℕ) (greatest : ℕ) (over : Option (List ℕ)) (place : ℕ) (es : List InnerEntry) → is_short_at place es ≡ true → joined_at (place - 1) (joined dist greatest over) es ≡ refilled dist greatest over place es
 refilled_short dist greatest over place es s = sym (rw s refl)
+
+-- what two facts of an answer give together
+pub both_ok : {X E : Type 0} (P Q R : X → Type 0) (r : Result X E) → ((x : X) → P x → Q x → R x) → IfOk r P → IfOk r Q → IfOk r R
+both_ok P Q R (Ok x) f p q = f x p q
+both_ok P Q R (Err e) f p q = tt
+
+-- the entries that stand for two leaves that were joined
+pub joined_leaves : (dist : List ℕ → List ℕ → ℕ) (greatest : ℕ) (left right new : InnerEntry) (tag other radius : ℕ) (es fs all : List LeafEntry) → (out-InnerEntry left).child ≡ node.Leaf tag es → (out-InnerEntry right).child ≡ node.Leaf other fs
+    → new ≡ roll-InnerEntry (record { object = (out-InnerEntry left).object; radius = radius; parent = (out-InnerEntry left).parent; child = node.Leaf tag all }) → (pair : Option Pair)
+    → (pair ≡ None → (settled_leaf dist greatest tag other (es ++ fs) ≡ Stays (node.Leaf tag (es ++ fs))) × (all ≡ all_under dist (λ (e : LeafEntry). e.vector) leaf_with_parent (out-InnerEntry left).object (es ++ fs)) × (radius ≡ min (farthest dist (λ (e : LeafEntry). e.vector) (λ (e : LeafEntry). 0) (out-InnerEntry left).object (es ++ fs)) greatest))
+    → ((p : Pair) → pair ≡ Some p → settled_leaf dist greatest tag other (es ++ fs) ≡ outcome pair (node.Leaf tag all)) → (over : Option (List ℕ)) → entries_of dist over pair new ≡ joined dist greatest over left right
+joined_leaves dist greatest left right new tag other radius es fs all a b c None one two over =
+    let o = one refl in
+    rw (opened_leaf (out-InnerEntry left).child tag es a, opened_leaf (out-InnerEntry right).child other fs b, o.0, c, o.1, o.2) refl
+joined_leaves dist greatest left right new tag other radius es fs all a b c (Some p) one two over =
+    rw (opened_leaf (out-InnerEntry left).child tag es a, opened_leaf (out-InnerEntry right).child other fs b, two p refl) refl

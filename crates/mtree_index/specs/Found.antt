@@ -1,5 +1,5 @@
 -- What the rule of a range query finds, in the order of the leaves. No public contract cites these: the numbers that are found are those that are near.
-use Rattle.std.specs.Prelude.{◌≡◌, ℕ, zero, suc, ◌+◌, ◌<◌, if◌then◌else◌, nat_le, List, [], ◌∷◌, Option, Some}
+use Rattle.std.specs.Prelude.{◌≡◌, ℕ, zero, suc, ◌+◌, ◌<◌, ◌≤◌, length, if◌then◌else◌, nat_le, List, [], ◌∷◌, Option, Some}
 use Rattle.std.specs.List.{AllByRecursion, flat_map}
 use Rattle.vec_record.specs.Vectors.{IsVector}
 use Rattle.mtree_node.specs.declared.node.LeafEntry.{LeafEntry}
@@ -16,10 +16,10 @@ module _ (width : ℕ) where
     pub child : below e.child
 
   abbrev pub IsShapedIn : ℕ → (Node → Type 0) → Layer → Type 0
-  IsShapedIn h below (Node-F.Leaf tag es) = (h ≡ 0) × AllByRecursion (λ e. IsVector width e.vector) es
+  IsShapedIn h below (Node-F.Leaf tag es) = (h ≡ 0) × (length es ≤ 30) × AllByRecursion (λ e. IsVector width e.vector) es
   IsShapedIn h below (Node-F.Inner tag es) = (0 < h) × AllByRecursion (λ e. IsEntryOver below (out-InnerEntry e)) es
 
-  -- the vectors of a tree have the width, and its leaves are on the level that the height says
+  -- the vectors of a tree have the width, and its leaves are on the level that the height says, with at most 30 entries each
   abbrev pub IsShaped : ℕ → Node → Type 0
   IsShaped zero n = ⊥
   IsShaped (suc h) n = IsShapedIn h (IsShaped h) (out-Node n)

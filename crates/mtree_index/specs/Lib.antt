@@ -5,7 +5,7 @@ pub mod Plain
 pub mod Tree
 pub mod Found
 pub mod Band
-pub mod AtPlaces
+pub mod Pruned
 pub mod Removal
 pub mod Shrinking
 pub mod Joinable

@@ -1,3 +1,5 @@
+//! What a split has to know of an entry, of a leaf or of an inner node.
+
 ghost use Rattle.std.specs.Prelude.{◌≡◌, ℕ, List};
 ghost use Rattle.mtree_index.specs.Entries.{leaf_with_parent, inner_with_parent};
 ghost use Rattle.mtree_node.specs.declared.node.InnerEntry.{out-InnerEntry};

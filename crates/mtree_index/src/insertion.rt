@@ -1,3 +1,5 @@
+//! Insertion below a node: the choice of the entry, and the split on the way back.
+
 ghost use Rattle.std.specs.Prelude.{◌≡◌, ℕ, ◌+◌, ◌*◌, ◌<◌, ◌≤◌, ◌^◌, List, Option, length, map, slice_index, IfOk, OnOk, Some};
 ghost use Rattle.std.specs.List.{AllByRecursion};
 ghost use Rattle.std.specs.Option.{option_copied};
@@ -8,7 +10,7 @@ ghost use Rattle.mtree_index.specs.Insertion.{rank, chosen, entry_distance, outc
 
 use crate::settle::{Pair, distance_from, put_pair, settle_inner, settle_leaf};
 use items::Items;
-use mtree_node::{InnerEntry, LeafEntry, Node};
+use mtree_node::{InnerEntry, Node};
 use std::alloc::{AllocError, Global};
 use std::sync::ledger::Ledger;
 use vec_record::{Metric, Number, Steps, Vector};
@@ -136,11 +138,7 @@ pub fn insert_below<M: Metric, L: Ledger>(
     match node {
         Node::Leaf { tag, entries } => {
             let parent = distance_from::<M, L>(over, vector, steps);
-            entries.push(LeafEntry {
-                number,
-                vector: vector.copy()?,
-                parent,
-            })?;
+            entries.push(number, parent, vector.as_slice())?;
             settle_leaf::<M, L>(alloc, width, *tag, 0, entries, steps)
         }
         Node::Inner { tag, entries } => {

@@ -1,17 +1,20 @@
+//! A node that is left with too few entries joins its sibling.
+
 ghost use Rattle.std.specs.Prelude.{◌≡◌, ℕ, ◌+◌, ◌-◌, ◌*◌, ◌<◌, ◌≤◌, ◌++◌, List, length, slice_get, min, IfOk, OnOk, Some, None};
 ghost use Rattle.std.specs.List.{AllByRecursion};
 ghost use Rattle.std.specs.Option.{option_copied};
 ghost use Rattle.vec_record.specs.Vectors.{IsWidth};
 ghost use Rattle.mtree_node.specs.declared.node.InnerEntry.{out-InnerEntry, roll-InnerEntry};
+ghost use Rattle.mtree_node.specs.Lists.{HaveVectorsOf};
 ghost use Rattle.mtree_index.specs.Insertion.{HasWidth, outcome, entries_of, settled_leaf, settled_inner};
 ghost use Rattle.mtree_index.specs.Entries.{leaf_with_parent, inner_with_parent};
 ghost use Rattle.mtree_index.specs.Removal.{size, joined_at, joined, refilled, farthest, all_under};
 ghost use Rattle.mtree_index.specs.Joinable.{IsJoinable, IsJoinableAt};
 
 use crate::settle::{Pair, put_pair, settle_inner, settle_leaf};
-use crate::under::{append, gather};
+use crate::under::{append, gather, gather_leaf};
 use items::Items;
-use mtree_node::{InnerEntry, LeafEntry, Node};
+use mtree_node::{InnerEntry, LeafEntries, Node};
 use std::alloc::{AllocError, Global};
 use std::sync::ledger::Ledger;
 use vec_record::{Metric, Steps, Vector};
@@ -34,15 +37,15 @@ fn join_leaves<M: Metric, L: Ledger>(
     object: &Vector,
     radius: &mut u32,
     tag: u32,
-    entries: &mut Items<LeafEntry>,
+    entries: &mut LeafEntries,
     right_tag: u32,
-    more: Items<LeafEntry>,
+    more: LeafEntries,
     steps: &mut Steps<L>,
 ) -> Result<Option<Pair>, AllocError>
     requires width { IsWidth (length object.now) }
     requires at_most { length entries.old + length more ≤ 36 }
-    requires left { AllByRecursion (λ e. length e.vector ≡ length object.now) entries.old }
-    requires right { AllByRecursion (λ e. length e.vector ≡ length object.now) more }
+    requires left { HaveVectorsOf (length object.now) entries.old }
+    requires right { HaveVectorsOf (length object.now) more }
     ensures one { IfOk result (λ pair. pair ≡ None → (settled_leaf M.dist (M.most (length object.now)) tag right_tag (entries.old ++ more) ≡ outcome None (Node.Leaf tag (entries.old ++ more)))
         × (entries.new ≡ all_under M.dist (λ e. e.vector) leaf_with_parent object.now (entries.old ++ more))
         × (radius.new ≡ min (farthest M.dist (λ e. e.vector) (λ e. 0) object.now (entries.old ++ more)) (M.most (length object.now)))) }
@@ -51,10 +54,10 @@ fn join_leaves<M: Metric, L: Ledger>(
     ensures counted { steps.new ≤ steps.old + 1332 }
 {
     let width = object.as_slice().len() as u32;
-    append(entries, more)?;
+    entries.append(&more)?;
     let pair = settle_leaf::<M, L>(alloc, width, tag, right_tag, entries, steps)?;
     let Some(pair) = pair else {
-        *radius = gather::<M, LeafEntry, L>(object, M::greatest(width), entries, steps);
+        *radius = gather_leaf::<M, L>(alloc, object, M::greatest(width), entries, steps)?;
         return Ok(None);
     };
     Ok(Some(pair))

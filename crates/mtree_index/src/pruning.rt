@@ -1,6 +1,12 @@
-ghost use Rattle.std.specs.Prelude.{◌≡◌, ℕ, ◌+◌, ◌<◌, not};
+//! The first pruning test, of one entry and of all entries of a leaf.
+
+ghost use Rattle.std.specs.Prelude.{◌≡◌, ℕ, ◌+◌, ◌<◌, ◌≤◌, not, length, take};
 ghost use Rattle.mtree_node.specs.Cost.{is_skipped};
 ghost use Rattle.mtree_index.specs.Band.{is_in};
+ghost use Rattle.mtree_index.specs.Pruned.{places_left};
+
+/// A leaf of a tree has at most 30 entries.
+pub const GROUP: usize = 32;
 
 /// The first pruning test: by the distances to the node's object an entry can't be within reach.
 pub fn is_skipped(to_object: Option<u32>, reach: u64, parent: u32) -> bool
@@ -46,4 +52,21 @@ impl Band {
     {
         parent.wrapping_sub(self.low) <= self.more
     }
+}
+
+/// Writes the places of the parent distances that the first pruning test leaves, and gives how many they
+/// are. It tests without a branch: one for each entry would be guessed wrong too often.
+#[inline]
+pub fn left(parents: &[u32], to_object: Option<u32>, radius: u32, places: &mut [u8; GROUP]) -> usize
+    requires { length parents.now ≤ 32 }
+    ensures left { take result places.new ≡ places_left to_object radius parents.now }
+    ensures few { result ≤ length parents.now }
+{
+    let band = Band::new(to_object, radius);
+    let mut count = 0;
+    for (place, parent) in parents.iter().enumerate() {
+        places[count] = place as u8;
+        count += usize::from(band.has(*parent));
+    }
+    count
 }

@@ -1,39 +1,17 @@
-ghost use Rattle.std.specs.Prelude.{◌≡◌, ℕ, ◌+◌, ◌<◌, ◌≤◌, ◌++◌, if◌then◌else◌, List, length, take, sum_by, OnOk, IfOk, None, [], ◌∷◌};
+//! The range query below a node.
+
+ghost use Rattle.std.specs.Prelude.{◌≡◌, ◌+◌, ◌<◌, ◌≤◌, ◌++◌, length, map, slice_index, sum_by, OnOk};
 ghost use Rattle.std.specs.List.{AllByRecursion, flat_map};
 ghost use Rattle.vec_record.specs.Vectors.{IsVector, IsWidth};
-ghost use Rattle.mtree_node.specs.declared.node.LeafEntry.{LeafEntry as PlainEntry};
 ghost use Rattle.mtree_node.specs.declared.node.InnerEntry.{out-InnerEntry};
-ghost use Rattle.mtree_node.specs.Cost.{is_skipped, leaf_cost, entry_cost, cost};
-ghost use Rattle.mtree_index.specs.AtPlaces.{at_place};
-ghost use Rattle.mtree_index.specs.Found.{IsShaped, IsEntryOver, number_within, leaf_found, entry_found, found};
+ghost use Rattle.mtree_node.specs.Cost.{leaf_cost, entry_cost, cost};
+ghost use Rattle.mtree_index.specs.Found.{IsShaped, IsEntryOver, leaf_found, entry_found, found};
 
-use crate::pruning::{Band, is_skipped};
-use mtree_node::{InnerEntry, LeafEntry, Node};
+use crate::pruning::{GROUP, is_skipped, left};
+use mtree_node::{InnerEntry, LeafEntries, Node};
 use std::alloc::AllocError;
 use std::sync::ledger::Ledger;
 use vec_record::{Metric, Number, Steps, Vector};
-
-// A leaf of the tree has at most 30 entries, so one group is enough for it.
-const GROUP: usize = 32;
-
-// Adds the number of an entry that the first pruning test leaves, if its vector is within the radius.
-fn look_at_vector<M: Metric, L: Ledger>(
-    entry: &LeafEntry,
-    centre: &Vector,
-    radius: u32,
-    out: &mut Vec<Number>,
-    steps: &mut Steps<L>,
-) -> Result<(), AllocError>
-    requires width { IsWidth (length centre.now) }
-    requires vector { IsVector (length centre.now) entry.now.vector }
-    ensures found { OnOk result (out.new.items ≡ out.old.items ++ number_within M.dist centre.now radius entry.now) }
-    ensures counted { steps.new ≡ steps.old + 1 }
-{
-    if M::distance(centre, &entry.vector, steps) <= radius {
-        out.push(entry.number)?;
-    }
-    Ok(())
-}
 
 #[cycle(search)]
 fn look_at_entry<M: Metric, L: Ledger>(
@@ -63,71 +41,47 @@ fn look_at_entry<M: Metric, L: Ledger>(
     search::<M, L>(below, height, Some(distance), centre, radius, out, steps)
 }
 
-// The places of the entries that the first pruning test leaves, and how many there are. It tests without a
-// branch: one for each entry would be guessed wrong too often, and each wrong guess would wait for memory.
-#[inline]
-fn places_left(entries: &[LeafEntry], to_object: Option<u32>, radius: u32) -> ([u8; GROUP], usize)
-    requires few { length entries.now ≤ 32 }
-    ensures room { result.1 ≤ 32 }
-    ensures inside { AllByRecursion (λ k. k < length entries.now) (take result.1 result.0) }
-    ensures left { (f : PlainEntry → List ℕ) → flat_map (at_place f entries.now) (take result.1 result.0) ≡ flat_map (λ e. if is_skipped to_object radius e.parent then [] else f e) entries.now }
-    ensures counted { result.1 ≡ sum_by (λ e. if is_skipped to_object radius e.parent then 0 else 1) entries.now }
+// Appends the numbers at the places.
+fn push_numbers(numbers: &[Number], places: &[u8], out: &mut Vec<Number>) -> Result<(), AllocError>
+    requires { AllByRecursion (λ k. k < length numbers.now) places.now }
+    ensures { OnOk result (out.new.items ≡ out.old.items ++ map (slice_index numbers.now) places.now) }
 {
-    let band = Band::new(to_object, radius);
-    let mut left = [0u8; GROUP];
-    let mut count = 0;
-    for (place, entry) in entries.iter().enumerate() {
-        left[count] = place as u8;
-        count += usize::from(band.has(entry.parent));
-    }
-    (left, count)
-}
-
-// First tests all entries, and then computes the distances of those that are left.
-fn look_at_group<M: Metric, L: Ledger>(
-    entries: &[LeafEntry],
-    to_object: Option<u32>,
-    centre: &Vector,
-    radius: u32,
-    out: &mut Vec<Number>,
-    steps: &mut Steps<L>,
-) -> Result<(), AllocError>
-    requires few { length entries.now ≤ 32 }
-    requires width { IsWidth (length centre.now) }
-    requires vectors { AllByRecursion (λ e. IsVector (length centre.now) e.vector) entries.now }
-    ensures found { OnOk result (out.new.items ≡ out.old.items ++ flat_map (leaf_found M.dist centre.now radius to_object) entries.now) }
-    ensures counted { OnOk result (steps.new ≡ steps.old + sum_by (leaf_cost M.dist centre.now radius to_object) entries.now) }
-    ensures at_most { steps.new ≤ steps.old + sum_by (leaf_cost M.dist centre.now radius to_object) entries.now }
-{
-    let (places, count) = places_left(entries, to_object, radius);
-    for place in &places[..count] {
-        let entry = &entries[usize::from(*place)];
-        look_at_vector::<M, L>(entry, centre, radius, out, steps)?;
+    for place in places {
+        out.push(numbers[usize::from(*place)])?;
     }
     Ok(())
 }
 
-fn look_at_leaves<M: Metric, L: Ledger>(
-    entries: &[LeafEntry],
+// First tests all entries, then computes the distances of those that are left, and only then takes memory.
+fn look_at_leaf<M: Metric, L: Ledger>(
+    entries: &LeafEntries,
     to_object: Option<u32>,
     centre: &Vector,
     radius: u32,
     out: &mut Vec<Number>,
     steps: &mut Steps<L>,
 ) -> Result<(), AllocError>
-    requires width { IsWidth (length centre.now) }
+    requires few { length entries.now ≤ 30 }
     requires vectors { AllByRecursion (λ e. IsVector (length centre.now) e.vector) entries.now }
     ensures found { OnOk result (out.new.items ≡ out.old.items ++ flat_map (leaf_found M.dist centre.now radius to_object) entries.now) }
-    ensures counted { OnOk result (steps.new ≡ steps.old + sum_by (leaf_cost M.dist centre.now radius to_object) entries.now) }
-    ensures at_most { steps.new ≤ steps.old + sum_by (leaf_cost M.dist centre.now radius to_object) entries.now }
+    ensures counted { steps.new ≡ steps.old + sum_by (leaf_cost M.dist centre.now radius to_object) entries.now }
 {
-    let mut rest = entries;
-    while rest.len() > GROUP {
-        let (group, after) = rest.split_at(GROUP);
-        look_at_group::<M, L>(group, to_object, centre, radius, out, steps)?;
-        rest = after;
+    let mut places = [0u8; GROUP];
+    let count = left(entries.parents(), to_object, radius, &mut places);
+    if count == 0 {
+        return Ok(());
     }
-    look_at_group::<M, L>(rest, to_object, centre, radius, out, steps)
+    let mut near = [0u8; GROUP];
+    let asked = &places[..count];
+    let found = M::within(
+        centre.as_slice(),
+        entries.rows(),
+        asked,
+        radius,
+        &mut near,
+        steps,
+    );
+    push_numbers(entries.numbers(), &near[..found], out)
 }
 
 #[cycle(search)]
@@ -172,8 +126,7 @@ pub fn search<M: Metric, L: Ledger>(
 {
     match node {
         Node::Leaf { tag: _, entries } => {
-            let all = entries.as_slice();
-            look_at_leaves::<M, L>(all, to_object, centre, radius, out, steps)
+            look_at_leaf::<M, L>(entries, to_object, centre, radius, out, steps)
         }
         Node::Inner { tag: _, entries } => {
             let all = entries.as_slice();

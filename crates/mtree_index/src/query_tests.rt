@@ -1,6 +1,6 @@
 //! Queries against scans, and their costs against those that `tools/tree_cases.py` computes.
 
-ghost use Rattle.std.specs.Prelude.{◌≡◌, ℕ, ◌+◌, ◌≤◌, ◌<◌, min, All, length, sum_by, OnOk, IfOk};
+ghost use Rattle.std.specs.Prelude.{◌≡◌, ℕ, ◌+◌, ◌≤◌, ◌<◌, min, All, length, slice_get, sum_by, OnOk, IfOk, Some};
 ghost use Rattle.std.specs.List.{AllByRecursion};
 ghost use Rattle.vec_record.specs.Vectors.{IsVector, IsWidth};
 ghost use Rattle.mtree_node.specs.declared.node.InnerEntry.{out-InnerEntry};
@@ -13,7 +13,7 @@ use crate::expected::COSTS;
 use crate::pruning::is_skipped;
 use crate::tests::{EQUAL, PLANE, Vectors, grown, vector_of};
 use int_metric::L1;
-use mtree_node::{InnerEntry, LeafEntry, Node};
+use mtree_node::{InnerEntry, LeafEntries, Node};
 use plain_dbscan::RangeIndex;
 use std::alloc::{AllocError, Global};
 use std::marker::Brand;
@@ -31,15 +31,18 @@ fn cut_sum(a: u32, b: u32) -> u32
 }
 
 fn cost_of_leaf<M: Metric>(
-    entry: &LeafEntry,
+    entries: &LeafEntries,
+    at: usize,
     to_object: Option<u32>,
     centre: &Vector,
     radius: u32,
 ) -> u32
-    ensures { result ≡ leaf_cost M.dist centre.now radius to_object entry.now }
+    requires { at < length entries.now }
+    ensures is { (e : _) → slice_get entries.now at ≡ Some e → result ≡ leaf_cost M.dist centre.now radius to_object e }
+    ensures small { result ≤ 1 }
 {
     let _ = centre;
-    if is_skipped(to_object, u64::from(radius), entry.parent) {
+    if is_skipped(to_object, u64::from(radius), entries.parents()[at]) {
         0
     } else {
         1
@@ -47,7 +50,7 @@ fn cost_of_leaf<M: Metric>(
 }
 
 fn cost_of_leaves<M: Metric>(
-    entries: &[LeafEntry],
+    entries: &LeafEntries,
     to_object: Option<u32>,
     centre: &Vector,
     radius: u32,
@@ -55,8 +58,8 @@ fn cost_of_leaves<M: Metric>(
     ensures { result ≡ min (sum_by (leaf_cost M.dist centre.now radius to_object) entries.now) 1000000 }
 {
     let mut total = 0;
-    for entry in entries {
-        let more = cost_of_leaf::<M>(entry, to_object, centre, radius);
+    for at in 0..entries.len() {
+        let more = cost_of_leaf::<M>(entries, at, to_object, centre, radius);
         total = cut_sum(total, more);
     }
     total
@@ -127,7 +130,7 @@ fn cost_of_node<M: Metric, L: Ledger>(
 {
     match node {
         Node::Leaf { tag: _, entries } => {
-            cost_of_leaves::<M>(entries.as_slice(), to_object, centre, radius)
+            cost_of_leaves::<M>(entries, to_object, centre, radius)
         }
         Node::Inner { tag: _, entries } => {
             let all = entries.as_slice();

@@ -1,9 +1,12 @@
-ghost use Rattle.std.specs.Prelude.{◌≡◌, ℕ, ◌+◌, ◌-◌, ◌*◌, ◌<◌, ◌≤◌, List, Option, length, sum_by, IfOk, OnOk, Ok, Some, None, true, false};
+//! The removal of a pair below a node: the search, and the mending on the way back.
+
+ghost use Rattle.std.specs.Prelude.{◌≡◌, ℕ, ◌+◌, ◌-◌, ◌*◌, ◌<◌, ◌≤◌, List, Option, length, slice_get, sum_by, IfOk, OnOk, Ok, Some, None, true, false};
 ghost use Rattle.std.specs.List.{AllByRecursion};
 ghost use Rattle.std.specs.Option.{option_copied, option_map};
 ghost use Rattle.vec_record.specs.Vectors.{IsWidth, IsVector};
 ghost use Rattle.mtree_node.specs.declared.node.InnerEntry.{out-InnerEntry};
 ghost use Rattle.mtree_node.specs.Tree.{IsNode, IsInnerEntry, leaves};
+ghost use Rattle.mtree_node.specs.Lists.{HaveVectorsOf};
 ghost use Rattle.mtree_node.specs.Cost.{leaf_cost, entry_cost, cost};
 ghost use Rattle.mtree_index.specs.Removal.{is_pair, without_first, first_changed, entry_without, removed, refilled, to_object};
 ghost use Rattle.mtree_index.specs.Joinable.{given, given_at};
@@ -11,46 +14,49 @@ ghost use Rattle.mtree_index.specs.Joinable.{given, given_at};
 use crate::joining::refill;
 use crate::pruning::is_skipped;
 use items::Items;
-use mtree_node::{InnerEntry, LeafEntry, Node};
+use mtree_node::{InnerEntry, LeafEntries, Node};
 use std::alloc::{AllocError, Global};
 use std::sync::ledger::Ledger;
 use vec_record::{Metric, Number, Steps, Vector};
 
+// Whether the entry at a place is the pair. Only one with the number costs a distance.
 fn is_pair<M: Metric, L: Ledger>(
-    entry: &LeafEntry,
+    entries: &LeafEntries,
+    at: usize,
     to_object: Option<u32>,
     number: Number,
     vector: &Vector,
     steps: &mut Steps<L>,
 ) -> bool
-    requires width { IsWidth (length vector.now) }
-    requires vector { length entry.now.vector ≡ length vector.now }
-    ensures value { (over : Option (List ℕ)) → to_object ≡ option_map (M.dist vector.now) over → result ≡ is_pair M.dist vector.now number over entry.now }
-    ensures counted { steps.new ≡ steps.old + leaf_cost M.dist vector.now 0 to_object entry.now }
+    requires place { at < length entries.now }
+    requires few { at < 256 }
+    requires vectors { HaveVectorsOf (length vector.now) entries.now }
+    ensures value { (e : _) → slice_get entries.now at ≡ Some e → (over : Option (List ℕ)) → to_object ≡ option_map (M.dist vector.now) over → result ≡ is_pair M.dist vector.now number over e }
+    ensures counted { (e : _) → slice_get entries.now at ≡ Some e → steps.new ≤ steps.old + leaf_cost M.dist vector.now 0 to_object e }
 {
-    if is_skipped(to_object, 0, entry.parent) {
+    if entries.numbers()[at] != number || is_skipped(to_object, 0, entries.parents()[at]) {
         return false;
     }
-    M::distance(vector, &entry.vector, steps) == 0 && entry.number == number
+    entries.distance::<M, L>(vector, at, steps) == 0
 }
 
 // Takes the pair out of a leaf, if it is there.
 fn remove_from_leaf<M: Metric, L: Ledger>(
-    entries: &mut Items<LeafEntry>,
+    entries: &mut LeafEntries,
     to_object: Option<u32>,
     number: Number,
     vector: &Vector,
     steps: &mut Steps<L>,
 ) -> bool
-    requires width { IsWidth (length vector.now) }
-    requires vectors { AllByRecursion (λ e. length e.vector ≡ length vector.now) entries.old }
+    requires few { length entries.old ≤ 30 }
+    requires vectors { HaveVectorsOf (length vector.now) entries.old }
     ensures is { (over : Option (List ℕ)) → to_object ≡ option_map (M.dist vector.now) over → given result entries.new ≡ without_first (is_pair M.dist vector.now number over) entries.old }
     ensures same { result ≡ false → entries.new ≡ entries.old }
     ensures counted { steps.new ≤ steps.old + sum_by (leaf_cost M.dist vector.now 0 to_object) entries.old }
 {
     for i in 0..entries.len() {
-        if is_pair::<M, L>(&entries.as_slice()[i], to_object, number, vector, steps) {
-            let _ = entries.remove(i);
+        if is_pair::<M, L>(entries, i, to_object, number, vector, steps) {
+            entries.remove(i);
             return true;
         }
     }

@@ -1,14 +1,17 @@
+//! A node with too many entries is split, and the two halves take the place of its entry.
+
 ghost use Rattle.std.specs.Prelude.{◌≡◌, ℕ, ◌+◌, ◌*◌, ◌<◌, ◌≤◌, length, slice_get, IfOk, OnOk, Some};
 ghost use Rattle.std.specs.List.{AllByRecursion};
 ghost use Rattle.std.specs.Option.{option_copied};
 ghost use Rattle.vec_record.specs.Vectors.{IsWidth};
 ghost use Rattle.mtree_node.specs.declared.node.InnerEntry.{out-InnerEntry, roll-InnerEntry};
+ghost use Rattle.mtree_node.specs.Lists.{HaveVectorsOf};
 ghost use Rattle.mtree_node.specs.Tree.{parent_distance};
-ghost use Rattle.mtree_index.specs.Insertion.{outcome, HasWidth, settled_leaf, settled_inner, entries_of, placed_under, replaced_at};
+ghost use Rattle.mtree_index.specs.Insertion.{entry_of, outcome, HasWidth, settled_leaf, settled_inner, entries_of, placed_under, replaced_at};
 
 use crate::split::{Half, split};
 use items::{Boxed, Items};
-use mtree_node::{InnerEntry, LeafEntry, Node};
+use mtree_node::{InnerEntry, LeafEntries, LeafEntry, Node};
 use std::alloc::{AllocError, Global};
 use std::mem;
 use std::sync::ledger::Ledger;
@@ -58,47 +61,49 @@ fn entry_over(
     })
 }
 
+// The entry of a half of a leaf.
+fn leaf_over(
+    alloc: Global,
+    width: u32,
+    tag: u32,
+    half: Half<LeafEntry>,
+) -> Result<InnerEntry, AllocError>
+    requires width { IsWidth width }
+    requires vectors { HaveVectorsOf width half.entries }
+    ensures { IfOk result (λ e. e ≡ entry_of half (Node.Leaf tag half.entries)) }
+{
+    let Half {
+        object,
+        radius,
+        entries,
+    } = half;
+    let entries = LeafEntries::from_slice(alloc, width, entries.as_slice())?;
+    entry_over(alloc, object, radius, Node::Leaf { tag, entries })
+}
+
 /// Splits a leaf that has too many entries. The left node keeps the tag, and the right one gets its own.
 pub fn settle_leaf<M: Metric, L: Ledger>(
     alloc: Global,
     width: u32,
     tag: u32,
     right_tag: u32,
-    entries: &mut Items<LeafEntry>,
+    entries: &LeafEntries,
     steps: &mut Steps<L>,
 ) -> Result<Option<Pair>, AllocError>
     requires width { IsWidth width }
-    requires vectors { AllByRecursion (λ e. length e.vector ≡ width) entries.old }
-    requires at_most { length entries.old ≤ 36 }
-    ensures is { IfOk result (λ pair. outcome pair (Node.Leaf tag entries.new) ≡ settled_leaf M.dist (M.most width) tag right_tag entries.old) }
+    requires vectors { HaveVectorsOf width entries.now }
+    requires at_most { length entries.now ≤ 36 }
+    ensures is { IfOk result (λ pair. outcome pair (Node.Leaf tag entries.now) ≡ settled_leaf M.dist (M.most width) tag right_tag entries.now) }
     ensures objects { IfOk result (HasWidth width) }
     ensures counted { steps.new ≤ steps.old + 1296 }
 {
     if entries.len() <= CAPACITY {
         return Ok(None);
     }
-    let all = mem::replace(entries, Items::new(alloc)).into_vec();
-    let (left, right) = split::<M, LeafEntry, L>(alloc, width, all, steps)?;
-    let Half {
-        object,
-        radius,
-        entries,
-    } = left;
-    let left = entry_over(alloc, object, radius, Node::Leaf { tag, entries })?;
-    let Half {
-        object,
-        radius,
-        entries,
-    } = right;
-    let right = entry_over(
-        alloc,
-        object,
-        radius,
-        Node::Leaf {
-            tag: right_tag,
-            entries,
-        },
-    )?;
+    let all = entries.to_vec(alloc)?;
+    let (left_half, right_half) = split::<M, LeafEntry, L>(alloc, width, all, steps)?;
+    let left = leaf_over(alloc, width, tag, left_half)?;
+    let right = leaf_over(alloc, width, right_tag, right_half)?;
     Ok(Some(Pair { left, right }))
 }
 

@@ -1,3 +1,5 @@
+//! The removal from a whole tree, which may lose levels.
+
 ghost use Rattle.std.specs.Prelude.{◌≡◌, ℕ, ◌+◌, ◌*◌, ◌<◌, ◌≤◌, length, None, Some, Ok, IfOk, true, false};
 ghost use Rattle.vec_record.specs.Vectors.{IsWidth};
 ghost use Rattle.mtree_index.specs.Tree.{IsRoot, root_cost};
@@ -16,7 +18,7 @@ fn as_root(node: Node) -> Node
 {
     match node {
         Node::Leaf { tag, mut entries } => {
-            clear_parents(&mut entries);
+            entries.clear_parents();
             Node::Leaf { tag, entries }
         }
         Node::Inner { tag, mut entries } => {

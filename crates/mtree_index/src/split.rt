@@ -1,3 +1,5 @@
+//! The split of a list of entries into two halves, each under one of their objects.
+
 ghost use Rattle.std.specs.Prelude.{◌≡◌, ℕ, ◌+◌, ◌*◌, ◌<◌, ◌≤◌, ◌++◌, length, map, slice_index, slice_index_or, IfOk, OnOk, [], ◌∷◌, true, false};
 ghost use Rattle.std.specs.List.{AllByRecursion};
 ghost use Rattle.vec_record.specs.Vectors.{IsWidth};

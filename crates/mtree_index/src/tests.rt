@@ -8,7 +8,7 @@ use crate::MTree;
 use crate::expected::{FAR_RUN, PLANE_RUN, Row, TREE};
 use crate::shape_tests::tag_nodes;
 use int_metric::{L1, Max};
-use mtree_node::{InnerEntry, LeafEntry, Node};
+use mtree_node::{InnerEntry, LeafEntries, Node};
 use plain_dbscan::RangeIndex;
 use std::alloc::{AllocError, Global};
 use std::marker::Brand;
@@ -151,9 +151,11 @@ pub fn grown<L: Ledger>(
     grow(alloc, vectors, count, &mut steps)
 }
 
-fn show_leaf(entry: &LeafEntry, out: &mut Vec<u32>) -> Result<(), AllocError> {
-    out.push(entry.number)?;
-    out.push(entry.parent)?;
+fn show_leaf(entries: &LeafEntries, out: &mut Vec<u32>) -> Result<(), AllocError> {
+    for (number, parent) in entries.numbers().iter().zip(entries.parents()) {
+        out.push(*number)?;
+        out.push(*parent)?;
+    }
     Ok(())
 }
 
@@ -182,10 +184,7 @@ fn show(node: &Node, levels: u32, out: &mut Vec<u32>) -> Result<(), AllocError> 
     match node {
         Node::Leaf { tag, entries } => {
             show_head(0, *tag, entries.len(), out)?;
-            for entry in entries.as_slice() {
-                show_leaf(entry, out)?;
-            }
-            Ok(())
+            show_leaf(entries, out)
         }
         Node::Inner { tag, entries } => {
             show_head(1, *tag, entries.len(), out)?;

@@ -1,3 +1,5 @@
+//! The tree that callers see, and its calls.
+
 ghost use Rattle.std.specs.Prelude.{◌≡◌, ℕ, ◌+◌, ◌*◌, ◌<◌, ◌≤◌, ◌↔◌, List, Option, length, None, Some, Err, IfOk, IfSome, OnOk, [], ◌∷◌};
 ghost use Rattle.std.specs.FinMap as map;
 ghost use Rattle.std.specs.Option.{option_copied, option_map};
@@ -17,7 +19,7 @@ use crate::query::search;
 use crate::settle::Pair;
 use crate::shrinking::shrink;
 use items::{Boxed, Items};
-use mtree_node::{BuildFault, LeafEntry, Node, Shapes, build};
+use mtree_node::{BuildFault, LeafEntries, Node, Shapes, build};
 use plain_dbscan::RangeIndex;
 use std::alloc::{AllocError, Global};
 use std::marker::{Model, PhantomData};
@@ -268,14 +270,11 @@ fn grow<M: Metric, L: Ledger>(
 
 // A root with one vector.
 fn first_leaf(alloc: Global, number: Number, vector: &Vector) -> Result<Node, AllocError>
+    requires { IsWidth (length vector.now) }
     ensures { IfOk result (λ n. n ≡ Node.Leaf 0 (record { number = number; vector = vector.now; parent = 0 } ∷ [])) }
 {
-    let mut entries = Items::new(alloc);
-    entries.push(LeafEntry {
-        number,
-        vector: vector.copy()?,
-        parent: 0,
-    })?;
+    let mut entries = LeafEntries::new(alloc);
+    entries.push(number, 0, vector.as_slice())?;
     Ok(Node::Leaf { tag: 0, entries })
 }
 

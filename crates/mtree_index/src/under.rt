@@ -1,11 +1,16 @@
-ghost use Rattle.std.specs.Prelude.{◌≡◌, ℕ, ◌+◌, ◌<◌, ◌≤◌, ◌++◌, length, map, min, OnOk};
+//! Entries put under an object: their parent distances, and the radius that covers them.
+
+ghost use Rattle.std.specs.Prelude.{◌≡◌, ℕ, ◌+◌, ◌<◌, ◌≤◌, ◌++◌, length, map, min, IfOk, OnOk};
 ghost use Rattle.std.specs.List.{AllByRecursion};
 ghost use Rattle.vec_record.specs.Vectors.{IsWidth};
+ghost use Rattle.mtree_node.specs.Lists.{HaveVectorsOf};
+ghost use Rattle.mtree_index.specs.Entries.{leaf_with_parent};
 ghost use Rattle.mtree_index.specs.Removal.{farthest, all_under};
 
 use crate::entry::Entry;
 use items::Items;
-use std::alloc::AllocError;
+use mtree_node::{LeafEntries, LeafEntry};
+use std::alloc::{AllocError, Global};
 use std::sync::ledger::Ledger;
 use vec_record::{Metric, Steps, Vector};
 
@@ -45,6 +50,27 @@ pub fn gather<M: Metric, E: Entry, L: Ledger>(
         most = most.max(move_under::<M, E, L>(object, entries.item_mut(i), steps));
     }
     most.min(u64::from(greatest)) as u32
+}
+
+/// The same of the entries of a leaf.
+pub fn gather_leaf<M: Metric, L: Ledger>(
+    alloc: Global,
+    object: &Vector,
+    greatest: u32,
+    entries: &mut LeafEntries,
+    steps: &mut Steps<L>,
+) -> Result<u32, AllocError>
+    requires width { IsWidth (length object.now) }
+    requires vectors { HaveVectorsOf (length object.now) entries.old }
+    ensures moved { OnOk result (entries.new ≡ all_under M.dist (λ e. e.vector) leaf_with_parent object.now entries.old) }
+    ensures radius { IfOk result (λ r. r ≡ min (farthest M.dist (λ e. e.vector) (λ e. 0) object.now entries.old) greatest) }
+    ensures counted { steps.new ≤ steps.old + length entries.old }
+{
+    let width = object.as_slice().len() as u32;
+    let mut all = Items::from_vec(entries.to_vec(alloc)?);
+    let radius = gather::<M, LeafEntry, L>(object, greatest, &mut all, steps);
+    *entries = LeafEntries::from_slice(alloc, width, all.as_slice())?;
+    Ok(radius)
 }
 
 /// Sets the parent distances to 0, as in a root.

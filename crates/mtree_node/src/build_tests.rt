@@ -1,3 +1,5 @@
+//! Lists of shapes that are trees, and lists that are none, each with the place where it stops.
+
 ghost use Rattle.std.specs.Prelude.{◌≡◌, ◌<◌, ◌≤◌, length, true, IfOk};
 ghost use Rattle.std.specs.List.{AllByRecursion};
 ghost use Rattle.mtree_node.specs.Walk.{HasObjectsIn, CanBeBuilt};

@@ -1,3 +1,5 @@
+//! The nodes of a tree as a list of shapes, in preorder.
+
 ghost use Rattle.std.specs.Prelude.{◌≡◌, ℕ, ◌+◌, ◌≤◌, ◌++◌, length, map, sum_by, IfOk, OnOk};
 ghost use Rattle.std.specs.List.{AllByRecursion};
 ghost use Rattle.mtree_node.specs.declared.node.InnerEntry.{out-InnerEntry};

@@ -1,3 +1,5 @@
+//! The number of levels of a tree.
+
 ghost use Rattle.std.specs.Prelude.{◌≡◌, ℕ};
 ghost use Rattle.mtree_node.specs.Tree.{IsLeveled, IsLevel};
 

@@ -1,3 +1,5 @@
+//! The nodes of a tree and their entries.
+
 use crate::leaf_entries::LeafEntries;
 use items::{Boxed, Items};
 use vec_record::{Number, Vector};

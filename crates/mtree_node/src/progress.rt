@@ -1,3 +1,5 @@
+//! How far the walk over a list of shapes has come.
+
 use vec_record::Records;
 
 /// How far a walk over shapes is.

@@ -1,3 +1,5 @@
+//! New tags for the nodes of a tree, in preorder.
+
 ghost use Rattle.std.specs.Prelude.{◌≡◌, ℕ, ◌+◌, ◌≤◌, length, sum_by};
 ghost use Rattle.std.specs.List.{AllByRecursion};
 ghost use Rattle.mtree_node.specs.declared.node.InnerEntry.{out-InnerEntry};

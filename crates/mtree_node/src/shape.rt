@@ -1,3 +1,5 @@
+//! Shapes, which are nodes without their children and vectors, and what may be wrong with a list of them.
+
 use items::Items;
 use std::alloc::AllocError;
 use vec_record::{Number, Vector};

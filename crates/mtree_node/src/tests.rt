@@ -1,3 +1,5 @@
+//! The number of levels of small trees.
+
 ghost use Rattle.std.specs.Prelude.{◌≡◌, IfOk};
 ghost use Rattle.mtree_node.specs.Tree.{IsLeveled};
 

@@ -80,12 +80,18 @@ insert_among-returns-clause-one_more g t c =
     let few = length_replaced (λ _. new) (slice_set es place now) place 2 (λ _. at_most_two g.M.Metric.dist over c.in_ok-pair.pair now) (omega arith) in
     on_ok_weaker c.put_pair.result (λ d. omega (arith, ap length (d now (get_set es place e now c.item_mut-entry.ensures.value)), few, length-set_at es place now)) c.put_pair.ensures.is
 
+pub insert_below-push-requires-clause-vectors : goal.insert_below-push-requires-clause-vectors
+insert_below-push-requires-clause-vectors g t c =
+    let w = length c.args.vector.now in
+    let old = leaf_widths g.M.Metric.dist w (g.M.Metric.most w) c.args.height (option_copied c.args.over) c.args.node.now c.in-Leaf.tag c.in-Leaf.entries c.requires.node c.in-Leaf.is in
+    rw (c.as_slice.ensures.value, c.in-Leaf.entries-is) old
+
 pub insert_below-settle_leaf-requires-clause-vectors : goal.insert_below-settle_leaf-requires-clause-vectors
 insert_below-settle_leaf-requires-clause-vectors g t c =
     let w = length c.args.vector.now in
     let has = λ (e : LeafEntry). length e.vector ≡ w in
     let old = leaf_widths g.M.Metric.dist w (g.M.Metric.most w) c.args.height (option_copied c.args.over) c.args.node.now c.in-Leaf.tag c.in-Leaf.entries c.requires.node c.in-Leaf.is in
-    rw (c.width_of-width.ensures, c.in_ok-push-in-Leaf.ensures.ok, c.in-Leaf.entries-is) (all_append has c.in-Leaf.entries _ old (ap length c.in_ok-copy-in-Leaf.ensures, tt))
+    rw (c.width_of-width.ensures, c.in_ok-push-in-Leaf.ensures.ok, c.in-Leaf.entries-is) (all_append has c.in-Leaf.entries _ old (ap length c.as_slice.ensures.value, tt))
 
 pub insert_below-settle_inner-requires-clause-vectors : goal.insert_below-settle_inner-requires-clause-vectors
 insert_below-settle_inner-requires-clause-vectors g t c = rw (c.width_of-width.ensures) c.in_ok-insert_among-in-Inner.ensures.objects
