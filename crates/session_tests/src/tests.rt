@@ -11,6 +11,7 @@ use std::test::Fail;
 use vec_record::{Bytes, Numbers, Steps};
 
 mod crashes;
+mod lines;
 mod lives;
 mod stores;
 
