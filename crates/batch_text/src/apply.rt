@@ -1,3 +1,5 @@
+//! Changes applied to records.
+
 ghost use Rattle.std.specs.Prelude.{◌≡◌, IfOk, IsOk, OnErr, OnOk};
 ghost use Rattle.std.specs.List.{AllByRecursion};
 ghost use Rattle.batch_text.specs.After.{CanApply, after, changed};
@@ -10,7 +12,8 @@ use vec_record::{Change, Changes, Params, Records};
 pub fn apply_change(records: &mut Records, change: Change) -> Result<(), AllocError>
     requires fits { IsChangeOf records.old.width change }
     requires can { CanApply records.old.vectors change }
-    ensures ok { OnOk result (records.new ≡ record records.old { vectors = changed records.old.vectors change }) }
+    ensures ok { OnOk result (records.new
+        ≡ record records.old { vectors = changed records.old.vectors change }) }
     ensures err { OnErr result (records.new ≡ records.old) }
     ensures width { records.new.width ≡ records.old.width }
 {
@@ -29,7 +32,8 @@ pub fn apply_change(records: &mut Records, change: Change) -> Result<(), AllocEr
 pub fn apply_all(records: &mut Records, params: &Params, changes: Changes) -> Result<(), AllocError>
     requires accepted { IsOk (after params.now.cap records.old.vectors changes) }
     requires fits { AllByRecursion (IsChangeOf records.old.width) changes }
-    ensures ok { OnOk result (IfOk (after params.now.cap records.old.vectors changes) (λ next. records.new ≡ record records.old { vectors = next })) }
+    ensures ok { OnOk result (IfOk (after params.now.cap records.old.vectors changes)
+        (λ next. records.new ≡ record records.old { vectors = next })) }
     ensures width { records.new.width ≡ records.old.width }
 {
     for change in changes.into_vec() {

@@ -1,4 +1,7 @@
-ghost use Rattle.std.specs.Prelude.{◌≡◌, ◌<◌, ◌+◌, ◌^◌, ℕ, List, [], length, Some, cond, IsOk, IfErr, OnOk};
+//! Whether changes can apply, before any of them does.
+
+ghost use Rattle.std.specs.Prelude.{◌≡◌, ◌<◌, ◌+◌, ◌^◌, ℕ, List, [], length, Some, cond, IsOk};
+ghost use Rattle.std.specs.Prelude.{IfErr, OnOk};
 ghost use Rattle.std.specs.Map.{lookup};
 ghost use Rattle.std.specs.Ordering.{nat_cmp};
 ghost use Rattle.std.specs.BTreeMap.{is_at};
@@ -11,8 +14,8 @@ use std::alloc::Global;
 use std::collections::BTreeMap;
 use vec_record::{Change, Changes, Number, Params, Records};
 
-/// What stands while changes are checked: for each number that a change named, whether it is present
-/// now, and how many records there are now. The records themselves are not copied.
+/// What stands while changes are checked: for each number that a change named, whether it is
+/// present now, and how many records there are now. The records themselves are not copied.
 #[derive(Drop)]
 struct Standing {
     marks: BTreeMap<Number, bool>,
@@ -31,7 +34,10 @@ fn has_number(records: &Records, standing: &Standing, number: Number) -> bool
 
 /// Marks a number as present or absent.
 fn mark(standing: &mut Standing, number: Number, present: bool) -> Result<(), CheckFault>
-    ensures marks { OnOk result ((n : ℕ) → lookup (is_at (nat_cmp n)) standing.new.marks.entries ≡ cond (is_at (nat_cmp number) n) (Some present) (lookup (is_at (nat_cmp n)) standing.old.marks.entries)) }
+    ensures marks { OnOk result
+        ((n : ℕ) → lookup (is_at (nat_cmp n)) standing.new.marks.entries
+        ≡ cond (is_at (nat_cmp number) n) (Some present)
+        (lookup (is_at (nat_cmp n)) standing.old.marks.entries)) }
     ensures count { standing.new.count ≡ standing.old.count }
     ensures memory { IfErr result (λ e. e ≡ CheckFault.Memory) }
 {
@@ -49,8 +55,13 @@ fn check_insertion(
     place: u32,
     number: Number,
 ) -> Result<(), CheckFault>
-    ensures ok { OnOk result ((now : Rows) (v : List ℕ) → Stands records.now.vectors standing.old now → Applied records.now.vectors standing.new (after_one place cap now (Change.Insert number v))) }
-    ensures err { IfErr result (λ e. (now : Rows) (v : List ℕ) → Stands records.now.vectors standing.old now → Explains e (after_one place cap now (Change.Insert number v))) }
+    ensures ok { OnOk result ((now : Rows) (v : List ℕ)
+        → Stands records.now.vectors standing.old now
+        → Applied records.now.vectors standing.new
+        (after_one place cap now (Change.Insert number v))) }
+    ensures err { IfErr result
+        (λ e. (now : Rows) (v : List ℕ) → Stands records.now.vectors standing.old now
+        → Explains e (after_one place cap now (Change.Insert number v))) }
 {
     if has_number(records, standing, number) {
         return Err(CheckFault::Repeated { place });
@@ -70,8 +81,12 @@ fn check_deletion(
     place: u32,
     number: Number,
 ) -> Result<(), CheckFault>
-    ensures ok { OnOk result ((now : Rows) → Stands records.now.vectors standing.old now → Applied records.now.vectors standing.new (after_one place cap now (Change.Delete number))) }
-    ensures err { IfErr result (λ e. (now : Rows) → Stands records.now.vectors standing.old now → Explains e (after_one place cap now (Change.Delete number))) }
+    ensures ok { OnOk result ((now : Rows) → Stands records.now.vectors standing.old now
+        → Applied records.now.vectors standing.new
+        (after_one place cap now (Change.Delete number))) }
+    ensures err { IfErr result
+        (λ e. (now : Rows) → Stands records.now.vectors standing.old now
+        → Explains e (after_one place cap now (Change.Delete number))) }
 {
     if !has_number(records, standing, number) {
         return Err(CheckFault::Unknown { place });
@@ -88,8 +103,11 @@ fn check_one(
     place: u32,
     change: &Change,
 ) -> Result<(), CheckFault>
-    ensures ok { OnOk result ((now : Rows) → Stands records.now.vectors standing.old now → Applied records.now.vectors standing.new (after_one place cap now change.now)) }
-    ensures err { IfErr result (λ e. (now : Rows) → Stands records.now.vectors standing.old now → Explains e (after_one place cap now change.now)) }
+    ensures ok { OnOk result ((now : Rows) → Stands records.now.vectors standing.old now
+        → Applied records.now.vectors standing.new (after_one place cap now change.now)) }
+    ensures err { IfErr result
+        (λ e. (now : Rows) → Stands records.now.vectors standing.old now
+        → Explains e (after_one place cap now change.now)) }
 {
     match change {
         Change::Insert(number, _) => check_insertion(records, cap, standing, place, *number),
@@ -109,7 +127,8 @@ pub fn check_batch(
 ) -> Result<(), CheckFault>
     requires { length changes.now < 2 ^ 32 }
     ensures accepts { OnOk result (IsOk (after params.now.cap records.now.vectors changes.now)) }
-    ensures refuses { IfErr result (λ e. Explains e (after params.now.cap records.now.vectors changes.now)) }
+    ensures refuses { IfErr result
+        (λ e. Explains e (after params.now.cap records.now.vectors changes.now)) }
     ensures empty { changes.now ≡ [] → IsOk result }
 {
     let mut standing = Standing {

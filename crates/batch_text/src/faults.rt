@@ -1,3 +1,5 @@
+//! What can be wrong with a batch.
+
 use thiserror::Error;
 
 /// What is wrong with a record of a batch.

@@ -1,8 +1,11 @@
+//! The fields of a vector, and the vector that they spell.
+
 ghost use Rattle.std.specs.Prelude.{◌≡◌, ◌≤◌, ◌<◌, ◌+◌, drop, length, Some, IfOk, option_map};
 ghost use Rattle.std.specs.Bool.{then_some};
 ghost use Rattle.std.specs.List.{list_all};
 ghost use Rattle.csv.specs.Records.{fields_of};
-ghost use Rattle.batch_text.specs.Vectors.{bytes_of, is_bit, joined, packed, packed_byte, spelled, spelled_by, text_bit};
+ghost use Rattle.batch_text.specs.Vectors.{bytes_of, is_bit, joined, packed, packed_byte, spelled};
+ghost use Rattle.batch_text.specs.Vectors.{spelled_by, text_bit};
 
 use crate::number::number_within;
 use csv::ByteRecord;
@@ -18,7 +21,8 @@ fn are_bits(field: &[u8]) -> bool
 
 /// Appends what one field spells, and answers whether the field is in the grammar.
 fn append_field(parts: &mut Vec<u8>, metric: MetricKind, field: &[u8]) -> Result<bool, AllocError>
-    ensures { IfOk result (λ good. then_some good parts.new.items ≡ joined (Some parts.old.items) (spelled_by metric field.now)) }
+    ensures { IfOk result (λ good. then_some good parts.new.items
+        ≡ joined (Some parts.old.items) (spelled_by metric field.now)) }
 {
     match metric {
         MetricKind::Hamming => {
@@ -45,7 +49,8 @@ pub fn spell_vector(
     dim: u32,
     row: &ByteRecord,
 ) -> Result<Option<Vec<u8>>, AllocError>
-    ensures { IfOk result (λ o. option_map (λ parts. parts.items) o ≡ spelled metric (drop 2 (fields_of row.now))) }
+    ensures { IfOk result (λ o. option_map (λ parts. parts.items) o
+        ≡ spelled metric (drop 2 (fields_of row.now))) }
 {
     let mut parts = Vec::with_capacity(alloc, dim as usize)?;
     let mut at = 2usize;

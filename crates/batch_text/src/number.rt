@@ -1,3 +1,5 @@
+//! Numbers of one to ten digits.
+
 ghost use Rattle.std.specs.Prelude.{◌≡◌, ◌≤◌, ◌<◌, ◌+◌, length};
 ghost use Rattle.batch_text.specs.Numbers.{digits_from, number_of, within};
 

@@ -1,4 +1,7 @@
-ghost use Rattle.std.specs.Prelude.{◌≡◌, ◌≤◌, ◌<◌, ◌+◌, [], ◌∷◌, ◌++◌, ℕ, List, length, min, OnOk, IfOk};
+//! The batch that a body of text says.
+
+ghost use Rattle.std.specs.Prelude.{◌≡◌, ◌≤◌, ◌<◌, ◌+◌, [], ◌∷◌, ◌++◌, ℕ, List, length, min, OnOk};
+ghost use Rattle.std.specs.Prelude.{IfOk};
 ghost use Rattle.std.specs.List.{AllByRecursion};
 ghost use Rattle.csv.specs.Records.{fields_of};
 ghost use Rattle.vec_record.specs.Limits.{width_of};
@@ -35,7 +38,9 @@ fn take_row(
     row: &ByteRecord,
 ) -> Result<(), AllocError>
     requires { batch.old.total < MOST_READ }
-    ensures { OnOk result ((done : List (List (List ℕ))) → Holds params.now.metric params.now.dim done batch.old → Holds params.now.metric params.now.dim (done ++ fields_of row.now ∷ []) batch.new) }
+    ensures { OnOk result ((done : List (List (List ℕ)))
+        → Holds params.now.metric params.now.dim done batch.old
+        → Holds params.now.metric params.now.dim (done ++ fields_of row.now ∷ []) batch.new) }
 {
     batch.total += 1;
     if batch.fault.is_none() {
@@ -67,18 +72,22 @@ fn read_rows(alloc: Global, body: &[u8], params: &Params) -> Result<ReadBatch, A
     Ok(batch)
 }
 
-/// Reads a body of at most 67,108,864 bytes of CSV text: the changes before the first faulty record,
-/// that record's fault, and the number of all records, or 100,001 where there are more.
+/// Reads a body of at most 67,108,864 bytes of CSV text: the changes before the first faulty
+/// record, that record's fault, and the number of all records, or 100,001 where there are more.
 ///
-/// A record is `+,NUMBER,v1,v2` and so on, or `-,NUMBER`, as the crate `csv` reads it with no header
-/// and unequal lengths allowed. The grammar is this project's own.
+/// A record is `+,NUMBER,v1,v2` and so on, or `-,NUMBER`, as the crate `csv` reads it with no
+/// header and unequal lengths allowed. The grammar is this project's own.
 pub fn read_batch(alloc: Global, body: &[u8], params: &Params) -> Result<ReadBatch, AllocError>
     requires { length body.now ≤ 67_108_864 }
     ensures is { IfOk result (λ b. b ≡ batch_of params.now.metric params.now.dim body.now) }
     ensures total { IfOk result (λ b. b.total ≡ min (length (records_of body.now)) 100_001) }
-    ensures whole { IfOk result (λ b. b.total ≤ 100_000 → b ≡ said_by params.now.metric params.now.dim (records_of body.now)) }
-    ensures fits { IfOk result (λ b. AllByRecursion (IsChangeOf (width_of params.now.metric params.now.dim)) b.changes) }
-    ensures spelled { IfOk result (λ b. AllByRecursion (IsSpelledChange params.now.metric params.now.dim) b.changes) }
+    ensures whole { IfOk result
+        (λ b. b.total ≤ 100_000 → b
+        ≡ said_by params.now.metric params.now.dim (records_of body.now)) }
+    ensures fits { IfOk result
+        (λ b. AllByRecursion (IsChangeOf (width_of params.now.metric params.now.dim)) b.changes) }
+    ensures spelled { IfOk result
+        (λ b. AllByRecursion (IsSpelledChange params.now.metric params.now.dim) b.changes) }
     ensures places { IfOk result (λ b. length b.changes ≤ b.total) }
 {
     read_rows(alloc, body, params)

@@ -1,3 +1,5 @@
+//! The change that one record of a body says.
+
 ghost use Rattle.std.specs.Prelude.{◌≡◌, ◌≤◌, ◌<◌, ◌+◌, drop, Some, IfOk};
 ghost use Rattle.csv.specs.Records.{fields_of};
 ghost use Rattle.batch_text.specs.Vectors.{spelled};
@@ -17,7 +19,9 @@ fn insertion(
     number: Number,
     row: &ByteRecord,
 ) -> Result<Result<Change, LineFault>, AllocError>
-    ensures { IfOk result (λ r. r ≡ insertion params.now.metric params.now.dim number (spelled params.now.metric (drop 2 (fields_of row.now)))) }
+    ensures { IfOk result (λ r. r
+        ≡ insertion params.now.metric params.now.dim number
+        (spelled params.now.metric (drop 2 (fields_of row.now)))) }
 {
     let parts = match spell_vector(alloc, params.metric, params.dim, row)? {
         Some(parts) => parts,
@@ -39,7 +43,9 @@ fn by_sign(
     number: Number,
     row: &ByteRecord,
 ) -> Result<Result<Change, LineFault>, AllocError>
-    ensures { IfOk result (λ r. r ≡ signed_change params.now.metric params.now.dim sign.now (Some number) (drop 2 (fields_of row.now))) }
+    ensures { IfOk result (λ r. r
+        ≡ signed_change params.now.metric params.now.dim sign.now (Some number)
+        (drop 2 (fields_of row.now))) }
 {
     if sign == b"+".as_slice() {
         insertion(alloc, params, number, row)
@@ -59,7 +65,8 @@ pub fn change_of(
     params: &Params,
     row: &ByteRecord,
 ) -> Result<Result<Change, LineFault>, AllocError>
-    ensures { IfOk result (λ r. r ≡ change_of params.now.metric params.now.dim (fields_of row.now)) }
+    ensures { IfOk result (λ r. r
+        ≡ change_of params.now.metric params.now.dim (fields_of row.now)) }
 {
     let sign = match row.get(0) {
         Some(sign) => sign,

@@ -1,3 +1,5 @@
+//! Tables of bodies, vectors and checks, with what is due to each.
+
 ghost use Rattle.std.specs.Prelude.{◌≡◌, ◌≤◌, length};
 ghost use Rattle.vec_record.specs.Limits.{width_of};
 
@@ -22,7 +24,8 @@ fn read(alloc: Global, metric: MetricKind, dim: u32, body: &[u8]) -> Result<Read
     }
 }
 
-/// What bodies say: how many changes come first, the fault behind them, and how many records there are.
+/// What bodies say: how many changes come first, the fault behind them, and how many records there
+/// are.
 #[test]
 fn bodies(rt: HostRuntime) -> Result<(), Fail> {
     let malformed = Some(LineFault::Malformed);

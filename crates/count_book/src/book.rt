@@ -3,7 +3,8 @@
 ghost use Rattle.std.specs.Prelude.{◌≡◌, ◌↔◌, None, IsTrue, IsSome, OnOk, OnErr, is_some};
 ghost use Rattle.std.specs.Option.{option_map};
 ghost use Rattle.std.specs.FinMap as map;
-ghost use Rattle.count_book.specs.Counted.{Counted, row_of, IsCore, BecameCore, CeasedToBeCore, entered, left, updated};
+ghost use Rattle.count_book.specs.Counted.{Counted, row_of, IsCore, BecameCore, CeasedToBeCore};
+ghost use Rattle.count_book.specs.Counted.{entered, left, updated};
 ghost use Rattle.count_book.specs.Counted.{one_more, one_less, anchored, offered, anchor_in};
 
 use crate::row::Row;
@@ -12,8 +13,8 @@ use std::alloc::{AllocError, Global};
 use std::marker::Model;
 use vec_record::Number;
 
-/// Counts and anchors under the numbers of records, beside `minpts`. A number is core where its count
-/// is at least `minpts`.
+/// Counts and anchors under the numbers of records, beside `minpts`. A number is core where its
+/// count is at least `minpts`.
 #[derive(Drop)]
 pub struct CountBook {
     minpts: u32,
@@ -63,7 +64,8 @@ impl CountBook {
         self.rows.remove(number).is_some()
     }
 
-    /// Counts one more; true exactly where the number became core. A count at 4,294,967,295 stays there.
+    /// Counts one more; true exactly where the number became core. A count at 4,294,967,295 stays
+    /// there.
     #[inline(always)]
     pub fn add_one(&mut self, number: Number) -> bool
         requires { IsSome (map.get self.old.rows number) }
@@ -132,7 +134,8 @@ impl CountBook {
         }
     }
 
-    /// Sets the anchor of a number that is there and isn't core, where it has none or a greater one.
+    /// Sets the anchor of a number that is there and isn't core, where it has none or a greater
+    /// one.
     #[inline(always)]
     pub fn offer_anchor(&mut self, number: Number, core: Number)
         ensures { self.new ≡ updated (offered self.old.minpts core) self.old number }

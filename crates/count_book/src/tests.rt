@@ -19,7 +19,8 @@ fn of_one(alloc: Global, count: u32, anchor: Option<Number>) -> Result<CountBook
 
 #[test]
 fn counts_cross_minpts_and_stop_at_the_ends(rt: HostRuntime) -> Result<(), Fail> {
-    // a count; the count after one more and whether it became core; after one less and whether it ceased
+    // a count; the count after one more and whether it became core; after one less and whether it
+    // ceased
     const ROWS: [(u32, u32, bool, u32, bool); 6] = [
         (0, 1, false, 0, false),
         (2, 3, true, 1, false),
@@ -74,7 +75,8 @@ fn a_number_leaves_once(rt: HostRuntime) -> Result<(), Fail> {
     Ok(())
 }
 
-// Enters an absent number with itself as count. False where it is there, or where memory is wanting.
+// Enters an absent number with itself as count. False where it is there, or where memory is
+// wanting.
 fn enter(book: &mut CountBook, number: Number) -> bool {
     match book.count_of(number) {
         Some(_) => false,

@@ -1,7 +1,7 @@
 //! Loops over the rows of a block, for every metric and at any width.
 //!
-//! Each loop is a function that is not inlined: where the compiler puts many of them into one function it leaves
-//! their bytes to be taken one by one.
+//! Each loop is a function that is not inlined: where the compiler puts many of them into one
+//! function it leaves their bytes to be taken one by one.
 
 ghost use Rattle.std.specs.Prelude.{◌≡◌, ℕ, ◌+◌, ◌-◌, ◌≤◌, nat_le, List, length, take};
 ghost use Rattle.vec_record.specs.Asked.{ArePlaces, near_at, near_rows, AreFar};
@@ -118,7 +118,8 @@ fn within_known<K: Kernel, const N: usize>(
     let mut count = 0;
     for place in places {
         let row = block.row_array::<N>(usize::from(*place));
-        // Without a branch: where half of the rows are near, each second one would be guessed wrong.
+        // Without a branch: where half of the rows are near, each second one would be guessed
+        // wrong.
         near[count] = *place;
         count += usize::from(is_near_known::<K, N>(centre, row, radius));
     }

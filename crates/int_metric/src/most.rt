@@ -3,7 +3,8 @@
 ghost use Rattle.std.specs.Prelude.{◌≡◌, length, refl};
 ghost use Rattle.vec_record.specs.Distance.{most_apart};
 ghost use Rattle.vec_record.specs.declared.kind.MetricKind.TheVariants.{Max as most_kind};
-ghost use Rattle.int_metric.specs.MostLaws.{most_identity, most_symmetry, most_triangle, most_bound};
+ghost use Rattle.int_metric.specs.MostLaws.{most_identity, most_symmetry, most_triangle};
+ghost use Rattle.int_metric.specs.MostLaws.{most_bound};
 
 use crate::kernel::{self, Kernel};
 use std::ops::Range;

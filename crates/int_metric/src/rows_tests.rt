@@ -61,8 +61,8 @@ fn finds<M: Metric, L: Ledger>(
     right
 }
 
-// Whether the metric agrees with the plain distances of the four rows, at each of them as the radius and one
-// below it.
+// Whether the metric agrees with the plain distances of the four rows, at each of them as the
+// radius and one below it.
 fn agrees<M: Metric, L: Ledger>(
     rt: &HostRuntime,
     centre: &[u8],
@@ -90,7 +90,8 @@ fn agrees<M: Metric, L: Ledger>(
 
 #[test]
 fn rows_of_each_width(rt: HostRuntime) -> Result<(), Fail> {
-    // The first shape gives the vector of zeros, and the second the one that is the furthest from it.
+    // The first shape gives the vector of zeros, and the second the one that is the furthest from
+    // it.
     let shapes = [[0, 0, 0], [255, 0, 0], [90, 3, 0], [17, 91, 5]];
     for width in [
         1, 2, 3, 7, 8, 9, 15, 16, 17, 31, 32, 33, 64, 100, 128, 255, 256, 512,

@@ -10,7 +10,8 @@ use std::ops::Range;
 use std::sync::ledger::Ledger;
 use vec_record::{Block, Metric, MetricKind, Steps, Vector};
 
-/// The sum of the absolute differences of the bytes (Manhattan distance), at most 255 times the width.
+/// The sum of the absolute differences of the bytes (Manhattan distance), at most 255 times the
+/// width.
 pub struct L1;
 
 impl Metric for L1 {
@@ -107,7 +108,8 @@ fn sum_of_differences(a: &[u8], b: &[u8]) -> u32
     requires small { length a.now ≤ 512 }
     ensures { result ≡ sum_apart a.now b.now }
 {
-    // The same bytes, now with the length of `a`, so that the compiler tests one length in place of two.
+    // The same bytes, now with the length of `a`, so that the compiler tests one length in place
+    // of two.
     let b = &b[..a.len()];
     let (blocks, a, b) = sum_of_blocks::<32>(a, b);
     blocks + sum_of_part(a, b)
@@ -149,8 +151,8 @@ fn sum_of_part(a: &[u8], b: &[u8]) -> u32
     half + quarter + rest
 }
 
-// The sum over the fewer than 8 bytes that are left. Not inlined, so that a width that leaves none need not
-// save the registers of this loop.
+// The sum over the fewer than 8 bytes that are left. Not inlined, so that a width that leaves none
+// need not save the registers of this loop.
 #[inline(never)]
 fn sum_of_rest(a: &[u8], b: &[u8]) -> u32
     requires same { length a.now ≡ length b.now }
@@ -188,8 +190,8 @@ fn sum_of_blocks<'a, 'b, const N: usize>(
     (total, a, b)
 }
 
-// The same of the first block alone, or 0 where there is none. Without a loop the compiler knows that
-// there is at most one.
+// The same of the first block alone, or 0 where there is none. Without a loop the compiler knows
+// that there is at most one.
 #[inline(always)]
 fn sum_of_one_block<'a, 'b, const N: usize>(a: &'a [u8], b: &'b [u8]) -> (u32, &'a [u8], &'b [u8])
     requires few { N ≤ 512 }

@@ -1,3 +1,5 @@
+//! A box that contracts see as its value.
+
 ghost use Rattle.std.specs.Prelude.{◌≡◌, IfOk};
 ghost use Rattle.std.specs.Borrow.{sem};
 ghost use Rattle.items.specs.Lending.{LendsValue};

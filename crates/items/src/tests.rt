@@ -1,3 +1,5 @@
+//! Items and boxed values, changed in place.
+
 use crate::{Boxed, Items};
 use std::test::Fail;
 

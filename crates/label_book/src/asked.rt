@@ -80,7 +80,8 @@ fn is_fresh(group: &[Number], lost: &[Number], earlier: &[Numbers]) -> bool
 
 /// Whether the groups name members alone, none twice and none that is lost.
 fn are_groups(book: &LabelBook, label: Number, lost: &[Number], groups: &[Numbers]) -> bool
-    ensures members { IsTrue result → (q : ℕ) → IsGrouped groups.now q → map.get book.now q ≡ Some label }
+    ensures members { IsTrue result → (q : ℕ) → IsGrouped groups.now q → map.get book.now q
+        ≡ Some label }
     ensures once { IsTrue result → AreEachOnce groups.now }
     ensures lost { IsTrue result → (q : ℕ) → IsMember lost.now q → IsGrouped groups.now q → ⊥ }
     ensures one { IsTrue result → AreApart groups.now }

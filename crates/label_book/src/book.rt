@@ -62,7 +62,8 @@ impl LabelBook {
         }
     }
 
-    /// The cores with this label, each once, in no promised order; `None` exactly where there are none.
+    /// The cores with this label, each once, in no promised order; `None` exactly where there are
+    /// none.
     pub fn members(&self, label: Number) -> Option<&Numbers>
         ensures some { IsSome result ↔ (map.get self.now label ≡ Some label) }
         ensures exact { IfSome result (λ m. AreMembers self.now label m.now) }

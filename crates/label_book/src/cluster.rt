@@ -1,6 +1,7 @@
 //! A cluster: its label and the list of its members.
 
-ghost use Rattle.std.specs.Prelude.{◌≡◌, [], ◌<◌, min, length, slice_get, None, Some, IfSome, IfOk, OnOk, OnErr};
+ghost use Rattle.std.specs.Prelude.{◌≡◌, [], ◌<◌, min, length, slice_get, None, Some, IfSome, IfOk};
+ghost use Rattle.std.specs.Prelude.{OnOk, OnErr};
 ghost use Rattle.label_book.specs.Labels.{IsLeastOf};
 ghost use Rattle.label_book.specs.inside.Steps.{with_core, with_members, IsSwappedOut};
 
@@ -35,8 +36,8 @@ impl Cluster {
         Ok(self.label)
     }
 
-    /// Puts the members of another cluster at the end of the list, and answers the label then. After
-    /// want of memory the cluster is as before.
+    /// Puts the members of another cluster at the end of the list, and answers the label then.
+    /// After want of memory the cluster is as before.
     pub fn absorb(&mut self, alloc: Global, other: &Cluster) -> Result<Number, AllocError>
         ensures label { IfOk result (λ l. l ≡ min self.old.label other.now.label) }
         ensures ok { OnOk result (self.new ≡ with_members self.old other.now) }

@@ -1,8 +1,10 @@
 //! Clusters are founded, take in cores, and join.
 
-ghost use Rattle.std.specs.Prelude.{◌≡◌, ◌⊎◌, ◌<◌, None, Some, ℕ, min, length, IsSome, IfOk, OnOk, OnErr};
+ghost use Rattle.std.specs.Prelude.{◌≡◌, ◌⊎◌, ◌<◌, None, Some, ℕ, min, length, IsSome, IfOk, OnOk};
+ghost use Rattle.std.specs.Prelude.{OnErr};
 ghost use Rattle.std.specs.FinMap as map;
-ghost use Rattle.label_book.specs.Labels.{IsMember, EachOnce, IsLeastOf, AreFree, AreLabels, IsFounded, IsJoined, IsLeastOfBoth};
+ghost use Rattle.label_book.specs.Labels.{IsMember, EachOnce, IsLeastOf, AreFree, AreLabels};
+ghost use Rattle.label_book.specs.Labels.{IsFounded, IsJoined, IsLeastOfBoth};
 ghost use Rattle.label_book.specs.inside.Steps.{IsWith, IsMergedOf, StandsFrom, IsRewritten};
 
 use crate::book::LabelBook;
@@ -12,8 +14,8 @@ use std::alloc::AllocError;
 use vec_record::{Number, Numbers};
 
 impl LabelBook {
-    /// Makes a cluster of cores without label, and answers its label, the least of them. After want of
-    /// memory some of them may be in the book.
+    /// Makes a cluster of cores without label, and answers its label, the least of them. After
+    /// want of memory some of them may be in the book.
     pub fn found(&mut self, cores: &Numbers) -> Result<Number, AllocError>
         requires some { 0 < length cores.now }
         requires once { EachOnce cores.now }
@@ -31,9 +33,9 @@ impl LabelBook {
         Ok(label)
     }
 
-    /// Makes one cluster of those of the labels and of cores without label, and answers its label, the
-    /// least of all. The lists of the smaller clusters move to that of the largest. After want of memory
-    /// some of this may be done.
+    /// Makes one cluster of those of the labels and of cores without label, and answers its label,
+    /// the least of all. The lists of the smaller clusters move to that of the largest. After want
+    /// of memory some of this may be done.
     pub fn join(&mut self, labels: &Numbers, cores: &Numbers) -> Result<Number, AllocError>
         requires some { 0 < length labels.now }
         requires labels { AreLabels self.old labels.now }
@@ -109,8 +111,8 @@ impl LabelBook {
         }
     }
 
-    // Gives a core without label to the cluster of a label, and answers the label that this cluster has
-    // then. After want of memory the book is as before.
+    // Gives a core without label to the cluster of a label, and answers the label that this
+    // cluster has then. After want of memory the book is as before.
     fn add(&mut self, label: Number, core: Number) -> Result<Number, AllocError>
         requires label { map.get self.old label ≡ Some label }
         requires core { map.get self.old core ≡ None }
@@ -142,9 +144,9 @@ impl LabelBook {
         }
     }
 
-    // Moves the members of the cluster of a core to that of a label, and answers the label that this
-    // cluster has then. Where the core is in it already nothing changes. After want of memory the book
-    // is as before.
+    // Moves the members of the cluster of a core to that of a label, and answers the label that
+    // this cluster has then. Where the core is in it already nothing changes. After want of memory
+    // the book is as before.
     fn merge(&mut self, into: Number, core: Number) -> Result<Number, AllocError>
         requires into { map.get self.old into ≡ Some into }
         requires core { IsSome (map.get self.old core) }

@@ -1,15 +1,18 @@
 //! A cluster parts: members leave, groups become clusters of their own, and the rest stays one.
 
-ghost use Rattle.std.specs.Prelude.{◌≡◌, ◌≢◌, ◌↔◌, None, Some, ℕ, [], ◌∷◌, ◌++◌, length, IsTrue, IsSome, IfOk, OnOk};
+ghost use Rattle.std.specs.Prelude.{◌≡◌, ◌≢◌, ◌↔◌, None, Some, ℕ, [], ◌∷◌, ◌++◌, length, IsTrue};
+ghost use Rattle.std.specs.Prelude.{IsSome, IfOk, OnOk};
 ghost use Rattle.std.specs.Option.{option_to_list};
 ghost use Rattle.std.specs.List.Sorted.{IsStrictlyIncreasing, IsNonDecreasing, IsPermutation};
 ghost use Rattle.std.specs.FinMap as map;
 ghost use Rattle.slab.specs.Slab as slab;
 ghost use Rattle.label_book.specs.Labels.{IsMember, EachOnce, AreFree};
-ghost use Rattle.label_book.specs.Parting.{IsGrouped, AreEachOnce, AreApart, IsParting, IsParted, AreNewLabels};
+ghost use Rattle.label_book.specs.Parting.{IsGrouped, AreEachOnce, AreApart, IsParting, IsParted};
+ghost use Rattle.label_book.specs.Parting.{AreNewLabels};
 ghost use Rattle.label_book.specs.inside.Kept.{ArePlaced};
 ghost use Rattle.label_book.specs.inside.Steps.{IsTakenOut, IsSettled, IsHeadless, IsWithout};
-ghost use Rattle.label_book.specs.inside.Steps.{IsWithoutGroups, IsCleared, AreFounded, IsOneFounded};
+ghost use Rattle.label_book.specs.inside.Steps.{IsWithoutGroups, IsCleared, AreFounded};
+ghost use Rattle.label_book.specs.inside.Steps.{IsOneFounded};
 
 use crate::book::LabelBook;
 use crate::cluster::{Cluster, Place};
@@ -19,10 +22,10 @@ use std::alloc::{AllocError, Global};
 use vec_record::{Groups, Number, Numbers};
 
 impl LabelBook {
-    /// Parts the cluster of a label: the lost ones leave, each group that isn't empty becomes a cluster,
-    /// and the members in no list stay one. Answers the labels that there are then, rising. Only the
-    /// cores of the lists are touched, and the rest is looked through once where its least one left.
-    /// After want of memory some of this may be done.
+    /// Parts the cluster of a label: the lost ones leave, each group that isn't empty becomes a
+    /// cluster, and the members in no list stay one. Answers the labels that there are then,
+    /// rising. Only the cores of the lists are touched, and the rest is looked through once where
+    /// its least one left. After want of memory some of this may be done.
     pub fn part(
         &mut self,
         label: Number,
@@ -206,7 +209,8 @@ fn take_out(
     }
 }
 
-// Makes the least member of a cluster its label, and answers it. A cluster with no member is removed.
+// Makes the least member of a cluster its label, and answers it. A cluster with no member is
+// removed.
 fn settle(clusters: &mut Slab<Cluster>, key: usize) -> Option<Number>
     requires { IsSome (slab.get clusters.old key) }
     ensures { IsSettled clusters.old key result clusters.new }

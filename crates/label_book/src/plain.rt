@@ -42,7 +42,8 @@ impl Plain {
         self.join(&[], cores)
     }
 
-    /// The cores, and those with one of the labels, get the least of all as label, which is answered.
+    /// The cores, and those with one of the labels, get the least of all as label, which is
+    /// answered.
     pub fn join(&mut self, labels: &[Number], cores: &[Number]) -> Number {
         let label = least(labels).min(least(cores));
         for core in 1..16u32 {

@@ -99,7 +99,8 @@ fn agree(book: &mut LabelBook, plain: &mut Plain, step: &Step) -> Result<bool, A
     }
 }
 
-/// The steps of the engine on small sets of records on a line, and the labels of 1 to 15 in the end.
+/// The steps of the engine on small sets of records on a line, and the labels of 1 to 15 in the
+/// end.
 const ROWS: [(&[Step], [Number; 16]); 7] = [
     // five in a row, all core; the middle one is deleted
     (
@@ -154,7 +155,8 @@ const ROWS: [(&[Step], [Number; 16]); 7] = [
     ),
 ];
 
-/// Clusters that lose their greatest, all but one or nothing, part in three, and join with two new cores.
+/// Clusters that lose their greatest, all but one or nothing, part in three, and join with two new
+/// cores.
 const CASES: [(&[Step], [Number; 16]); 6] = [
     (
         &[Found(&[2, 5, 3]), Part(2, &[5], &[])],

@@ -1,4 +1,7 @@
-ghost use Rattle.std.specs.Prelude.{◌≡◌, ℕ, ◌+◌, ◌*◌, ◌/◌, ◌%◌, ◌<◌, ◌≤◌, ◌^◌, length, count_by, slice_index_or, false, IsTrue};
+//! The pair of entries to promote, chosen among all pairs.
+
+ghost use Rattle.std.specs.Prelude.{◌≡◌, ℕ, ◌+◌, ◌*◌, ◌/◌, ◌%◌, ◌<◌, ◌≤◌, ◌^◌, length, count_by};
+ghost use Rattle.std.specs.Prelude.{slice_index_or, false, IsTrue};
 ghost use Rattle.mtree_split.specs.Laws.{IsEarlier};
 ghost use Rattle.mtree_split.specs.Sides.{sides_of};
 ghost use Rattle.mtree_split.specs.Choice.{row_of, greater_radius, parting_of, pair_rank, choice};
@@ -155,9 +158,13 @@ pub fn choose(count: usize, matrix: &[u32], radii: &[u32], greatest: u32) -> Par
     ensures is { result ≡ choice count matrix.now radii.now greatest }
     ensures rises { result.left < result.right }
     ensures inside { result.right < count }
-    ensures parting { result ≡ parting_of count matrix.now radii.now greatest result.left result.right }
-    ensures least { (i j : ℕ) → i < j → j < count → greater_radius result ≤ greater_radius (parting_of count matrix.now radii.now greatest i j) }
-    ensures first { (i j : ℕ) → i < j → j < count → IsEarlier i j result.left result.right → greater_radius result < greater_radius (parting_of count matrix.now radii.now greatest i j) }
+    ensures parting { result ≡ parting_of count matrix.now radii.now greatest result.left
+        result.right }
+    ensures least { (i j : ℕ) → i < j → j < count → greater_radius result
+        ≤ greater_radius (parting_of count matrix.now radii.now greatest i j) }
+    ensures first { (i j : ℕ) → i < j → j < count → IsEarlier i j result.left result.right
+        → greater_radius result
+        < greater_radius (parting_of count matrix.now radii.now greatest i j) }
     ensures balanced { count_by (λ went_right. went_right) result.sides ≡ count / 2 }
     ensures none_past { (k : ℕ) → count ≤ k → slice_index_or result.sides k false ≡ false }
 {

@@ -1,5 +1,9 @@
-ghost use Rattle.std.specs.Prelude.{◌≡◌, ℕ, ◌+◌, ◌%◌, ◌<◌, ◌≤◌, ◌^◌, length, min, true, false, replicate, slice_set};
-ghost use Rattle.mtree_split.specs.Sides.{rank_left, nearest_left, sides_of, is_on, side_radius, nearer_sum};
+//! The two sides of a pair, and their radii.
+
+ghost use Rattle.std.specs.Prelude.{◌≡◌, ℕ, ◌+◌, ◌%◌, ◌<◌, ◌≤◌, ◌^◌, length, min, true, false};
+ghost use Rattle.std.specs.Prelude.{replicate, slice_set};
+ghost use Rattle.mtree_split.specs.Sides.{rank_left, nearest_left, sides_of, is_on, side_radius};
+ghost use Rattle.mtree_split.specs.Sides.{nearer_sum};
 
 // A rank above every distance and radius.
 pub const BEYOND: u64 = 1 << 32;
@@ -85,7 +89,8 @@ pub fn side_radius(greatest: u32, row: &[u32], radii: &[u32], sides: &[bool], si
 pub fn nearer_radius(greatest: u32, left_row: &[u32], right_row: &[u32], radii: &[u32]) -> u32
     requires same_length { length right_row.now ≡ length left_row.now }
     requires radii { length radii.now ≡ length left_row.now }
-    ensures { result ≡ min (nearer_sum left_row.now right_row.now radii.now (length left_row.now)) greatest }
+    ensures { result ≡ min (nearer_sum left_row.now right_row.now radii.now (length left_row.now))
+        greatest }
 {
     let mut bound = 0u64;
     for k in 0..left_row.len() {

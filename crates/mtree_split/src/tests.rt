@@ -1,3 +1,5 @@
+//! Partings against those that `tools/parting_cases.py` computes apart from the program.
+
 ghost use Rattle.std.specs.Prelude.{◌≡◌, ℕ, ◌+◌, ◌*◌, ◌<◌, ◌≤◌, length, All, IsTrue};
 ghost use Rattle.mtree_split.specs.Choice.{distance_of};
 
@@ -39,7 +41,8 @@ fn is_lawful_row(count: usize, matrix: &[u32], i: usize) -> bool
     requires square { length matrix.now ≡ count * count }
     requires inside { i < count }
     ensures zero { IsTrue result → distance_of count matrix.now i i ≡ 0 }
-    ensures symmetric { IsTrue result → (j : ℕ) → j < count → distance_of count matrix.now i j ≡ distance_of count matrix.now j i }
+    ensures symmetric { IsTrue result → (j : ℕ) → j < count → distance_of count matrix.now i j
+        ≡ distance_of count matrix.now j i }
 {
     for j in 0..count {
         if matrix[i * count + j] != matrix[j * count + i] {
@@ -53,7 +56,8 @@ fn is_lawful(count: usize, matrix: &[u32]) -> bool
     requires at_most { count ≤ 36 }
     requires square { length matrix.now ≡ count * count }
     ensures zero { IsTrue result → (i : ℕ) → i < count → distance_of count matrix.now i i ≡ 0 }
-    ensures symmetric { IsTrue result → (i j : ℕ) → i < count → j < count → distance_of count matrix.now i j ≡ distance_of count matrix.now j i }
+    ensures symmetric { IsTrue result → (i j : ℕ) → i < count → j < count
+        → distance_of count matrix.now i j ≡ distance_of count matrix.now j i }
 {
     for i in 0..count {
         if !is_lawful_row(count, matrix, i) {
@@ -69,8 +73,9 @@ fn are_at_most(values: &[u32], greatest: u32) -> bool
     values.iter().all(|value| *value <= greatest)
 }
 
-// The output of `tools/parting_cases.py`: the count, what the points are made from, what the radii are
-// made from, the greatest distance, the pair, the entries that go right as bits, and the radii.
+// The output of `tools/parting_cases.py`: the count, what the points are made from, what the radii
+// are made from, the greatest distance, the pair, the entries that go right as bits, and the
+// radii.
 const PARTINGS: [(usize, [u32; 3], [u32; 3], u32, [usize; 2], u64, [u32; 2]); 7] = [
     (31, [0, 0, 1], [0, 1, 0], 510, [0, 1], 0x2aaaaaaa, [0, 0]),
     (

@@ -1,3 +1,5 @@
+//! Values under numbers, hashed.
+
 ghost use Rattle.std.specs.Prelude.{◌≡◌, ◌≢◌, None, OnOk, OnErr, is_some, IsTrue, IsSome};
 ghost use Rattle.std.specs.Option.{option_copied, option_copied_mut};
 ghost use Rattle.std.specs.Borrow.{sem};
@@ -52,8 +54,8 @@ impl<V: Drop> NumberMap<V> {
         self.entries.get_mut(&number)
     }
 
-    /// Puts a value under a number, in place of the one that is there. After want of memory the map is
-    /// as before.
+    /// Puts a value under a number, in place of the one that is there. After want of memory the
+    /// map is as before.
     #[inline(always)]
     pub fn insert(&mut self, number: u32, value: V) -> Result<(), AllocError>
         ensures ok { OnOk result (self.new ≡ map.insert self.old number value) }
@@ -63,7 +65,8 @@ impl<V: Drop> NumberMap<V> {
         Ok(())
     }
 
-    /// Sets the value of a number that is there, without taking memory. An absent number stays absent.
+    /// Sets the value of a number that is there, without taking memory. An absent number stays
+    /// absent.
     #[inline(always)]
     pub fn replace(&mut self, number: u32, value: V)
         ensures { self.new ≡ replaced self.old number value }

@@ -1,3 +1,5 @@
+//! The calls of a map, on one number.
+
 use crate::NumberMap;
 use std::test::Fail;
 

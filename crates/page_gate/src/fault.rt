@@ -1,3 +1,5 @@
+//! Why a file of pages is not opened.
+
 use thiserror::Error;
 
 /// Why a file of pages is not opened.

@@ -1,5 +1,8 @@
+//! What page 0 says: the two gates, and where redo items lie.
+
 ghost use Rattle.std.specs.Prelude.{◌≡◌, ◌<◌, ◌≤◌, ◌+◌, ◌*◌, length, MatchOption};
-ghost use Rattle.page_gate.specs.Gate.{blank_by, is_signed, first_set, is_open, fits, gate_of, number_4, number_8};
+ghost use Rattle.page_gate.specs.Gate.{blank_by, is_signed, first_set, is_open, fits, gate_of};
+ghost use Rattle.page_gate.specs.Gate.{number_4, number_8};
 
 use crate::fault::OpenFault;
 

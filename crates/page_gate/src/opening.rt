@@ -1,10 +1,15 @@
-ghost use Rattle.std.specs.Prelude.{◌≡◌, ◌≤◌, ◌<◌, ◌+◌, ◌-◌, ◌*◌, ◌/◌, ◌^◌, ℕ, ltb, ◌&&◌, length, get_or, IsTrue, OnOk, IfOk};
+//! The opening of a file: its checks, and what is left of a commit that was cut off.
+
+ghost use Rattle.std.specs.Prelude.{◌≡◌, ◌≤◌, ◌<◌, ◌+◌, ◌-◌, ◌*◌, ◌/◌, ◌^◌, ℕ, ltb, ◌&&◌, length};
+ghost use Rattle.std.specs.Prelude.{get_or, IsTrue, OnOk, IfOk};
 ghost use Rattle.site_disk.specs.Causes.{HasCause};
 ghost use Rattle.site_disk.specs.Calls.{Syncs};
 ghost use Rattle.page_gate.specs.Gate.{items, opening};
 ghost use Rattle.page_gate.specs.Same.{IsOnly, Puts};
 ghost use Rattle.page_gate.specs.Steps.{IsUnnamed, InPlace};
-ghost use Rattle.page_gate.specs.Looks.{Looks, ReadsWord, ReadsNumber, Tests, IsReady, TakesItem, Settles, CanTake, HasGate, IsSound, Recovers, Loads, Fills, Lists};
+ghost use Rattle.page_gate.specs.Looks.{Looks, ReadsWord, ReadsNumber, Tests, IsReady, TakesItem};
+ghost use Rattle.page_gate.specs.Looks.{Settles, CanTake, HasGate, IsSound, Recovers, Loads, Fills};
+ghost use Rattle.page_gate.specs.Looks.{Lists};
 ghost use Rattle.page_gate.specs.Promises.{Asks, Finds, HasFault};
 
 use crate::fault::OpenFault;
@@ -94,14 +99,16 @@ fn numbers_rise<T: Site>(site: &mut T, start: u64, count: u32) -> Result<bool, F
     Ok(true)
 }
 
-/// Takes one redo item in: its image comes into the place of its page. The numbers were tested before;
-/// the test here keeps the offset in bounds over a site that reads otherwise the second time.
+/// Takes one redo item in: its image comes into the place of its page. The numbers were tested
+/// before; the test here keeps the offset in bounds over a site that reads otherwise the second
+/// time.
 fn take_item<T: Site>(site: &mut T, page: &mut Page, at: u64, limit: u64) -> Result<(), Failed>
     requires limit { 16384 * limit ≤ 2 ^ 63 - 1 }
     requires room { at + 16392 ≤ 2 ^ 63 - 1 }
     requires told { IsTrue T.tells → at + 16392 ≤ length (T.state site.old).content }
     ensures cause { HasCause (T.faults site.old) (T.faults site.new) result }
-    ensures told { IsTrue T.tells → TakesItem at limit result (T.state site.old) (T.state site.new) }
+    ensures told { IsTrue T.tells
+        → TakesItem at limit result (T.state site.old) (T.state site.new) }
 {
     let number = read_number(site, at)?;
     if number >= limit {
@@ -116,7 +123,10 @@ fn take_in<T: Site>(site: &mut T, page: &mut Page, start: u64, count: u32) -> Re
     requires room { start + 16392 * count ≤ 2 ^ 63 - 1 }
     requires told { IsTrue T.tells → IsReady start count (T.state site.old).content }
     ensures cause { HasCause (T.faults site.old) (T.faults site.new) result }
-    ensures told { IsTrue T.tells → Puts (IsUnnamed (items start count (T.state site.old).content)) start (InPlace (items start count (T.state site.old).content)) result (T.state site.old) (T.state site.new) }
+    ensures told { IsTrue T.tells
+        → Puts (IsUnnamed (items start count (T.state site.old).content)) start
+        (InPlace (items start count (T.state site.old).content)) result (T.state site.old)
+        (T.state site.new) }
 {
     let limit = start / PAGE_SIZE;
     for k in 0..count {
@@ -135,7 +145,9 @@ fn settle_items<T: Site>(
     requires room { start + 16392 * count ≤ 2 ^ 63 - 1 }
     requires told { IsTrue T.tells → CanTake start count (T.state site.old) }
     ensures cause { HasCause (T.faults site.old) (T.faults site.new) result }
-    ensures told { IsTrue T.tells → Settles (opening (T.state site.old).content) (length (T.state site.old).content) result (T.state site.old) (T.state site.new) }
+    ensures told { IsTrue T.tells
+        → Settles (opening (T.state site.old).content) (length (T.state site.old).content) result
+        (T.state site.old) (T.state site.new) }
 {
     take_in(site, page, start, count)?;
     site.sync()?;
@@ -227,8 +239,8 @@ fn read_list<T: Site>(alloc: Global, site: &mut T, len: u64) -> Result<Pages, Op
 }
 
 /// Opens a file of pages. A commit or an opening that was cut off is brought to its end first. At
-/// each moment a crash leaves a file that opens as this one, and unless the site fails, there is one
-/// image in the end, whatever the answer.
+/// each moment a crash leaves a file that opens as this one, and unless the site fails, there is
+/// one image in the end, whatever the answer.
 pub fn open_pages<T: Site>(alloc: Global, site: &mut T) -> Result<Pages, OpenFault>
     ensures cause { HasFault (T.faults site.old) (T.faults site.new) result }
     ensures told { IsTrue T.tells → Finds result (T.state site.old) (T.state site.new) }

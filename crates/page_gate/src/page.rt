@@ -1,4 +1,7 @@
-ghost use Rattle.std.specs.Prelude.{◌≡◌, ◌<◌, ◌≤◌, ◌+◌, ℕ, [], ◌∷◌, ◌++◌, length, take, drop, replicate, set, get_or, OnOk, OnErr, IfOk};
+//! A page, and lists of pages to be written.
+
+ghost use Rattle.std.specs.Prelude.{◌≡◌, ◌<◌, ◌≤◌, ◌+◌, ℕ, [], ◌∷◌, ◌++◌, length, take, drop};
+ghost use Rattle.std.specs.Prelude.{replicate, set, get_or, OnOk, OnErr, IfOk};
 ghost use Rattle.vec_record.specs.Vectors.{AreBytes};
 ghost use Rattle.std.specs.Prelude.{IsTrue};
 ghost use Rattle.site_disk.specs.Causes.{HasCause};
@@ -56,7 +59,8 @@ impl Page {
     /// Changes the bytes from `at` on to these.
     pub fn put(&mut self, at: usize, bytes: &[u8])
         requires { at + length bytes.now ≤ 16384 }
-        ensures { self.new ≡ take at self.old ++ bytes.now ++ drop (at + length bytes.now) self.old }
+        ensures { self.new ≡ take at self.old ++ bytes.now ++ drop (at + length bytes.now)
+            self.old }
     {
         self.bytes[at..at + bytes.len()].copy_from_slice(bytes);
     }

@@ -1,4 +1,8 @@
-ghost use Rattle.std.specs.Prelude.{◌≡◌, ◌≤◌, ◌<◌, ◌+◌, ◌-◌, ◌^◌, ℕ, Bool, leb, ltb, ◌&&◌, cond, [], ◌∷◌, ◌++◌, length, get_or, Option, option_map, OnOk, OnErr, MatchOption, ◌⊎◌};
+//! The pages of an open file.
+
+ghost use Rattle.std.specs.Prelude.{◌≡◌, ◌≤◌, ◌<◌, ◌+◌, ◌-◌, ◌^◌, ℕ, Bool, leb, ltb, ◌&&◌, cond};
+ghost use Rattle.std.specs.Prelude.{[], ◌∷◌, ◌++◌, length, get_or, Option, option_map, OnOk, OnErr};
+ghost use Rattle.std.specs.Prelude.{MatchOption, ◌⊎◌};
 ghost use Rattle.page_gate.specs.Writes.{pairs, put_page, written, new_count, IsPlan};
 
 use crate::page::{Page, PageWrite, PageWrites};
@@ -17,7 +21,8 @@ impl Model for Pages {
 
     ghost Value = { Room };
 
-    ghost view = { λ p. record { list = p.pages.items; spare = vec_capacity p.pages - vec_len p.pages } };
+    ghost view = { λ p. record
+        { list = p.pages.items; spare = vec_capacity p.pages - vec_len p.pages } };
 
     ghost invariant = { λ p. length p.pages.items + 1 < 2 ^ 32 };
 }
@@ -50,7 +55,9 @@ impl Pages {
 
     /// A page by its number, from 1 on.
     pub fn page(&self, page: u32) -> Option<&Page>
-        ensures { MatchOption result ((page ≡ 0) ⊎ (length self.now.list < page)) (λ found. (1 ≤ page) × (page ≤ length self.now.list) × (found.now ≡ get_or self.now.list (page - 1) [])) }
+        ensures { MatchOption result ((page ≡ 0) ⊎ (length self.now.list < page))
+            (λ found. (1 ≤ page) × (page ≤ length self.now.list)
+            × (found.now ≡ get_or self.now.list (page - 1) [])) }
     {
         if page == 0 {
             return None;
@@ -80,7 +87,8 @@ impl Pages {
         requires room { length self.old.list < write.page → 0 < self.old.spare }
         requires count { write.page + 1 < 2 ^ 32 }
         ensures list { self.new.list ≡ put_page write.page write.bytes self.old.list }
-        ensures spare { length self.old.list + self.old.spare ≤ length self.new.list + self.new.spare }
+        ensures spare { length self.old.list + self.old.spare
+            ≤ length self.new.list + self.new.spare }
     {
         let at = write.page as usize - 1;
         if at < self.pages.len() {

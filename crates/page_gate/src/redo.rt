@@ -1,3 +1,5 @@
+//! The commit: pages written by way of redo items, so that all change or none.
+
 ghost use Rattle.std.specs.Prelude.{◌≡◌, ◌<◌, ◌≤◌, ◌+◌, ◌-◌, ◌*◌, ◌^◌, length, IsTrue, OnOk, OnErr};
 ghost use Rattle.site_disk.specs.Causes.{HasCause};
 ghost use Rattle.page_gate.specs.Gate.{count_of, rises};
@@ -28,7 +30,9 @@ fn new_count(writes: &[PageWrite]) -> u32
 /// Writes where the redo items start and how many they are.
 fn write_redo_fields<T: Site>(site: &mut T, start: u64, count: u32) -> Result<(), Failed>
     ensures cause { HasCause (T.faults site.old) (T.faults site.new) result }
-    ensures told { IsTrue T.tells → Puts (IsOutside 8 12) 20 (HasFields start count) result (T.state site.old) (T.state site.new) }
+    ensures told { IsTrue T.tells
+        → Puts (IsOutside 8 12) 20 (HasFields start count) result (T.state site.old)
+        (T.state site.new) }
 {
     write_number_8(site, 8, start)?;
     write_number_4(site, 16, count)
@@ -41,7 +45,9 @@ fn stage<T: Site>(site: &mut T, start: u64, writes: &[PageWrite]) -> Result<(), 
     requires count { length writes.now < 2 ^ 32 }
     requires room { start + 16392 * length writes.now ≤ 2 ^ 63 - 1 }
     ensures cause { HasCause (T.faults site.old) (T.faults site.new) result }
-    ensures told { IsTrue T.tells → Keeps (IsSettled start) (start + 16392 * length writes.now) (Staged start (pairs writes.now)) result (T.state site.old) (T.state site.new) }
+    ensures told { IsTrue T.tells
+        → Keeps (IsSettled start) (start + 16392 * length writes.now)
+        (Staged start (pairs writes.now)) result (T.state site.old) (T.state site.new) }
 {
     write_redo_fields(site, start, writes.len() as u32)?;
     write_items(site, start, writes)?;
@@ -52,7 +58,9 @@ fn stage<T: Site>(site: &mut T, start: u64, writes: &[PageWrite]) -> Result<(), 
 fn settle<T: Site>(site: &mut T, writes: &[PageWrite]) -> Result<(), Failed>
     requires { IsTrue (rises 0 (new_count (pairs writes.now)) (pairs writes.now)) }
     ensures cause { HasCause (T.faults site.old) (T.faults site.new) result }
-    ensures told { IsTrue T.tells → Keeps (IsUnnamed (pairs writes.now)) (16384 * new_count (pairs writes.now)) (InPlace (pairs writes.now)) result (T.state site.old) (T.state site.new) }
+    ensures told { IsTrue T.tells
+        → Keeps (IsUnnamed (pairs writes.now)) (16384 * new_count (pairs writes.now))
+        (InPlace (pairs writes.now)) result (T.state site.old) (T.state site.new) }
 {
     write_pages(site, writes)?;
     site.sync()
@@ -64,8 +72,11 @@ fn write_through<T: Site>(site: &mut T, _pages: &Pages, writes: &[PageWrite]) ->
     requires held { IsTrue T.tells → Holds _pages.now.list (T.state site.old) }
     ensures cause { HasCause (T.faults site.old) (T.faults site.new) result }
     ensures small { new_count (pairs writes.now) < 2 ^ 32 }
-    ensures told { IsTrue T.tells → Commits _pages.now.list (written _pages.now.list (pairs writes.now)) result (T.state site.old) (T.state site.new) }
-    ensures behind { IsTrue T.tells → OnOk result (IsBehind (pairs writes.now) (T.state site.new).content) }
+    ensures told { IsTrue T.tells
+        → Commits _pages.now.list (written _pages.now.list (pairs writes.now)) result
+        (T.state site.old) (T.state site.new) }
+    ensures behind { IsTrue T.tells
+        → OnOk result (IsBehind (pairs writes.now) (T.state site.new).content) }
 {
     let start = PAGE_SIZE * u64::from(new_count(writes));
     stage(site, start, writes)?;
@@ -81,8 +92,11 @@ pub fn commit<T: Site>(site: &mut T, pages: &mut Pages, writes: PageWrites) -> R
     requires room { new_count (pairs writes) ≤ length pages.old.list + 1 + pages.old.spare }
     requires held { IsTrue T.tells → Holds pages.old.list (T.state site.old) }
     ensures cause { HasCause (T.faults site.old) (T.faults site.new) result }
-    ensures told { IsTrue T.tells → Commits pages.old.list (written pages.old.list (pairs writes)) result (T.state site.old) (T.state site.new) }
-    ensures behind { IsTrue T.tells → OnOk result (IsBehind (pairs writes) (T.state site.new).content) }
+    ensures told { IsTrue T.tells
+        → Commits pages.old.list (written pages.old.list (pairs writes)) result (T.state site.old)
+        (T.state site.new) }
+    ensures behind { IsTrue T.tells
+        → OnOk result (IsBehind (pairs writes) (T.state site.new).content) }
     ensures ok { OnOk result (pages.new.list ≡ written pages.old.list (pairs writes)) }
     ensures err { OnErr result (pages.new ≡ pages.old) }
 {

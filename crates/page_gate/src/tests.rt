@@ -1,3 +1,5 @@
+//! Tables of files and what opening them answers, and sites that fail or stop.
+
 ghost use Rattle.std.specs.Prelude.{◌≡◌, ℕ, List, length, IfOk};
 ghost use Rattle.page_gate.specs.Gate.{count_of};
 ghost use Rattle.page_gate.specs.Writes.{pairs, new_count, IsPlan};
@@ -181,7 +183,8 @@ fn marked(alloc: Global, first: u8, fifth: u8) -> Result<Page, AllocError>
 /// Pages 1 to 3 as writes.
 fn three(alloc: Global, first: Page, second: Page, third: Page) -> Result<PageWrites, AllocError>
     requires { count_of first ≡ 4 }
-    ensures plan { IfOk result (λ w. (pages : List (List ℕ)) → length pages ≡ 2 → IsPlan pages (pairs w)) }
+    ensures plan { IfOk result
+        (λ w. (pages : List (List ℕ)) → length pages ≡ 2 → IsPlan pages (pairs w)) }
     ensures count { IfOk result (λ w. new_count (pairs w) ≡ 4) }
 {
     let mut writes = PageWrites::new(alloc);
@@ -202,7 +205,8 @@ fn three(alloc: Global, first: Page, second: Page, third: Page) -> Result<PageWr
 
 /// What the store holds in the end.
 fn new_pages(alloc: Global) -> Result<PageWrites, AllocError>
-    ensures plan { IfOk result (λ w. (pages : List (List ℕ)) → length pages ≡ 2 → IsPlan pages (pairs w)) }
+    ensures plan { IfOk result
+        (λ w. (pages : List (List ℕ)) → length pages ≡ 2 → IsPlan pages (pairs w)) }
     ensures count { IfOk result (λ w. new_count (pairs w) ≡ 4) }
 {
     let first = marked(alloc, 4, 8)?;
@@ -343,8 +347,9 @@ fn has_bytes(content: &[u8], rows: &[(usize, &[u8])], set: usize) -> bool {
     content.iter().filter(|byte| **byte != 0).count() == set
 }
 
-/// A file behind a commit of three pages, 4 the number of pages then: the gates, the letters, the redo
-/// start 65,536 and the redo count 3; the pages in their places; and the items of 16,392 bytes.
+/// A file behind a commit of three pages, 4 the number of pages then: the gates, the letters, the
+/// redo start 65,536 and the redo count 3; the pages in their places; and the items of 16,392
+/// bytes.
 const COMMITTED: [(usize, &[u8]); 7] = [
     (0, b"\x01\0denswh\0\0\x01\0\0\0\0\0\x03\0\0\0"),
     (16_384, b"\x04\0\0\0\x08"),

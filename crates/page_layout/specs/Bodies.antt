@@ -1,5 +1,5 @@
 -- Body pages. All are record pages: slots of one width, each free or with a record.
-use Rattle.std.specs.Prelude.{◌≡◌, ◌≢◌, ℕ, ◌+◌, ◌-◌, ◌*◌, ◌/◌, ◌<◌, ◌^◌, ◌==◌, if◌then◌else◌, List, [], ◌∷◌, ◌++◌, length, map, replicate, get_or, Option, Some, None, Result, IsTrue}
+use Rattle.std.specs.Prelude.{◌≡◌, ◌≢◌, ℕ, ◌+◌, ◌-◌, ◌*◌, ◌/◌, ◌<◌, ◌^◌, ◌==◌, if◌then◌else◌, List, [], ◌∷◌, ◌++◌, length, map, replicate, get_or, set, Option, Some, None, Result, IsTrue}
 use Rattle.std.specs.List.{AllByRecursion, flat_map, range_with_len}
 use Rattle.vec_record.specs.Vectors.{IsVector}
 use Rattle.vec_record.specs.Limits.{width_of}
@@ -101,3 +101,16 @@ slot_bytes width (Some s) = word s.number ++ (word s.count ++ (word s.anchor ++ 
 -- the written form of a record page, 16,384 bytes
 unfoldable pub body_page : ℕ → Rows → List ℕ
 body_page width rows = (1 ∷ replicate 15 0) ++ (flat_map (slot_bytes width) rows ++ replicate (16384 - slot_at width (slots_in_page width)) 0)
+
+-- a page whose slots are lawful gets this row at a place, and keeps its other slots
+abbrev pub PutsRow : Values → ℕ → Option Slot → List ℕ → List ℕ → Type 0
+PutsRow v place row old new =
+    (rows : Rows) → AreRows v rows → old ≡ body_page (width_of v.metric v.dim) rows
+    → new ≡ body_page (width_of v.metric v.dim) (set rows place row)
+
+-- the same, where the slot at the place is free
+abbrev pub FillsRow : Values → ℕ → Option Slot → List ℕ → List ℕ → Type 0
+FillsRow v place row old new =
+    (rows : Rows) → AreRows v rows → get_or rows place None ≡ None
+    → old ≡ body_page (width_of v.metric v.dim) rows
+    → new ≡ body_page (width_of v.metric v.dim) (set rows place row)

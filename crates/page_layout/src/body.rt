@@ -1,10 +1,14 @@
-ghost use Rattle.std.specs.Prelude.{◌≡◌, ◌≢◌, ◌<◌, ◌≤◌, ◌+◌, length, set, replicate, get_or, None, Ok, IfOk, MatchResult};
+//! A body page, written and read: its slots in order.
+
+ghost use Rattle.std.specs.Prelude.{◌≡◌, ◌≢◌, ◌<◌, ◌≤◌, ◌+◌, length, replicate, None};
+ghost use Rattle.std.specs.Prelude.{Ok, IfOk, MatchResult};
 ghost use Rattle.vec_record.specs.Limits.{width_of};
 ghost use Rattle.vec_record.specs.Spelled.{is_spelled};
 ghost use Rattle.page_gate.specs.Gate.{number_4};
 ghost use Rattle.page_layout.specs.Fields.{IsWhy};
 ghost use Rattle.page_layout.specs.Heads.{values_of};
-ghost use Rattle.page_layout.specs.Bodies.{Rows, rows_of, AreRows, IsRow, slots_in_page, body_of, body_page};
+ghost use Rattle.page_layout.specs.Bodies.{rows_of, AreRows, IsRow, slots_in_page};
+ghost use Rattle.page_layout.specs.Bodies.{body_of, body_page, FillsRow};
 ghost use Rattle.page_layout.specs.Steps.{slot_of, slots_of};
 
 use crate::fault::LayoutFault;
@@ -24,7 +28,7 @@ pub enum Body {
 fn write_row(params: &Params, place: usize, row: &Option<Slot>, out: &mut Page)
     requires place { place < slots_in_page (width_of params.now.metric params.now.dim) }
     requires row { IsRow (values_of params.now) row.now }
-    ensures { (rows : Rows) → AreRows (values_of params.now) rows → get_or rows place None ≡ None → out.old ≡ body_page (width_of params.now.metric params.now.dim) rows → out.new ≡ body_page (width_of params.now.metric params.now.dim) (set rows place row.now) }
+    ensures { FillsRow (values_of params.now) place row.now out.old out.new }
 {
     if let Some(slot) = row {
         write_slot(params, place, slot.as_view(), out);
@@ -34,7 +38,8 @@ fn write_row(params: &Params, place: usize, row: &Option<Slot>, out: &mut Page)
 /// Writes the slots of a page in which all are free.
 fn write_rows(params: &Params, rows: &[Option<Slot>], out: &mut Page)
     requires rows { AreRows (values_of params.now) rows.now }
-    requires free { out.old ≡ body_page (width_of params.now.metric params.now.dim) (replicate (slots_in_page (width_of params.now.metric params.now.dim)) None) }
+    requires free { out.old ≡ body_page (width_of params.now.metric params.now.dim)
+        (replicate (slots_in_page (width_of params.now.metric params.now.dim)) None) }
     ensures { out.new ≡ body_page (width_of params.now.metric params.now.dim) rows.now }
 {
     for place in 0..rows.len() {
@@ -76,7 +81,8 @@ fn read_used(
     requires page { length page.now ≡ 16384 }
     requires within { at + 16 + width_of params.now.metric params.now.dim ≤ length page.now }
     requires used { number_4 at page.now ≢ 0 }
-    ensures { MatchResult result (λ row. slot_of (values_of params.now) page.now at ≡ Ok row) (IsWhy (slot_of (values_of params.now) page.now at)) }
+    ensures { MatchResult result (λ row. slot_of (values_of params.now) page.now at ≡ Ok row)
+        (IsWhy (slot_of (values_of params.now) page.now at)) }
 {
     let width = params.width() as usize;
     let vector = &page[at + 16..at + 16 + width];
@@ -110,7 +116,8 @@ fn read_slot(
 ) -> Result<Option<Slot>, LayoutFault>
     requires page { length page.now ≡ 16384 }
     requires within { at + 16 + width_of params.now.metric params.now.dim ≤ length page.now }
-    ensures { MatchResult result (λ row. slot_of (values_of params.now) page.now at ≡ Ok row) (IsWhy (slot_of (values_of params.now) page.now at)) }
+    ensures { MatchResult result (λ row. slot_of (values_of params.now) page.now at ≡ Ok row)
+        (IsWhy (slot_of (values_of params.now) page.now at)) }
 {
     if word_at(page, at) != 0 {
         return read_used(alloc, params, page, at);
@@ -125,7 +132,8 @@ fn read_slot(
 /// Reads the slots from the first on.
 fn read_slots(alloc: Global, params: &Params, page: &[u8]) -> Result<SlotRows, LayoutFault>
     requires { length page.now ≡ 16384 }
-    ensures { MatchResult result (λ rows. slots_of (values_of params.now) page.now ≡ Ok rows) (IsWhy (slots_of (values_of params.now) page.now)) }
+    ensures { MatchResult result (λ rows. slots_of (values_of params.now) page.now ≡ Ok rows)
+        (IsWhy (slots_of (values_of params.now) page.now)) }
 {
     let size = 16 + params.width() as usize;
     let slots = 16368 / size;
@@ -140,7 +148,8 @@ fn read_slots(alloc: Global, params: &Params, page: &[u8]) -> Result<SlotRows, L
 /// Reads the bytes of a body page.
 fn read_rows(alloc: Global, params: &Params, page: &[u8]) -> Result<SlotRows, LayoutFault>
     requires { length page.now ≡ 16384 }
-    ensures rows { MatchResult result (λ rows. body_of (values_of params.now) page.now ≡ Ok rows) (IsWhy (body_of (values_of params.now) page.now)) }
+    ensures rows { MatchResult result (λ rows. body_of (values_of params.now) page.now ≡ Ok rows)
+        (IsWhy (body_of (values_of params.now) page.now)) }
     ensures lawful { IfOk result (AreRows (values_of params.now)) }
 {
     if page[0] != 1 {
@@ -157,10 +166,12 @@ fn read_rows(alloc: Global, params: &Params, page: &[u8]) -> Result<SlotRows, La
     Ok(rows)
 }
 
-/// Reads a body page. `Damaged` comes exactly where a field isn't lawful, with the first such field; the
-/// answer is never `Foreign`, and `Memory` where memory is wanting.
+/// Reads a body page. `Damaged` comes exactly where a field isn't lawful, with the first such
+/// field; the answer is never `Foreign`, and `Memory` where memory is wanting.
 pub fn read_body(alloc: Global, params: &Params, page: &Page) -> Result<Body, LayoutFault>
-    ensures body { MatchResult result (λ b. body_of (values_of params.now) page.now ≡ Ok (rows_of b)) (IsWhy (body_of (values_of params.now) page.now)) }
+    ensures body { MatchResult result
+        (λ b. body_of (values_of params.now) page.now ≡ Ok (rows_of b))
+        (IsWhy (body_of (values_of params.now) page.now)) }
     ensures lawful { IfOk result (λ b. AreRows (values_of params.now) (rows_of b)) }
 {
     Ok(Body::Slots(read_rows(alloc, params, page.as_slice())?))

@@ -1,3 +1,5 @@
+//! Why a page is not read.
+
 ghost use Rattle.std.specs.Prelude.{◌≡◌};
 ghost use Rattle.page_layout.specs.declared.fault.LayoutFault.TheVariants.{Memory};
 

@@ -1,3 +1,5 @@
+//! The fields of a page: numbers of 4 bytes, bounds and zeros.
+
 ghost use Rattle.std.specs.Prelude.{◌≡◌, ◌≤◌, ◌<◌, ◌+◌, ◌-◌, ◌*◌, ◌^◌, ◌++◌, length, take, drop};
 ghost use Rattle.std.specs.List.{flat_map};
 ghost use Rattle.vec_record.specs.Limits.{is_between};
@@ -20,7 +22,8 @@ pub(crate) fn word_at(bytes: &[u8], at: usize) -> u32
 pub(crate) fn put_words(out: &mut Page, at: usize, words: &[u32])
     requires { at + 4 * length words.now ≤ 16384 }
     ensures page { length out.old ≡ 16384 }
-    ensures written { out.new ≡ take at out.old ++ flat_map word words.now ++ drop (at + 4 * length words.now) out.old }
+    ensures written { out.new ≡ take at out.old ++ flat_map word words.now ++ drop
+        (at + 4 * length words.now) out.old }
 {
     // Seen as a slice, a page is known to have its length.
     let _page = out.as_slice();

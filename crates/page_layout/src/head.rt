@@ -1,6 +1,9 @@
+//! The head page: the parameters of the store and its counts.
+
 ghost use Rattle.std.specs.Prelude.{◌≡◌, ◌≢◌, length, Ok, Err, None, IfOk, IfErr, MatchResult};
 ghost use Rattle.page_layout.specs.Fields.{first_bad};
-ghost use Rattle.page_layout.specs.Heads.{IsHead, plain, values_of, metric_number, metric_of, dim_limit, head_fields, values_in, head_of, head_page};
+ghost use Rattle.page_layout.specs.Heads.{IsHead, plain, values_of, metric_number, metric_of};
+ghost use Rattle.page_layout.specs.Heads.{dim_limit, head_fields, values_in, head_of, head_page};
 
 use crate::fault::LayoutFault;
 use crate::field::{first_bad, first_set, is_between, put_words, word_at};
@@ -117,7 +120,8 @@ fn params_in(page: &[u8]) -> Params
 /// Reads the bytes of a head page.
 fn read_fields(page: &[u8]) -> Result<Head, LayoutFault>
     requires { length page.now ≡ 16384 }
-    ensures head { MatchResult result (λ h. head_of page.now ≡ Ok (plain h)) (λ e. head_of page.now ≡ Err e) }
+    ensures head { MatchResult result (λ h. head_of page.now ≡ Ok (plain h))
+        (λ e. head_of page.now ≡ Err e) }
     ensures lawful { IfOk result (λ h. IsHead (plain h)) }
     ensures memory { IfErr result (λ e. e ≢ LayoutFault.Memory) }
 {
@@ -139,10 +143,11 @@ fn read_fields(page: &[u8]) -> Result<Head, LayoutFault>
     })
 }
 
-/// Reads the head page. `Foreign` comes exactly where the version isn't known, `Damaged` exactly where it
-/// is and a field isn't lawful, with the first such field; it takes no memory.
+/// Reads the head page. `Foreign` comes exactly where the version isn't known, `Damaged` exactly
+/// where it is and a field isn't lawful, with the first such field; it takes no memory.
 pub fn read_head(page: &Page) -> Result<Head, LayoutFault>
-    ensures head { MatchResult result (λ h. head_of page.now ≡ Ok (plain h)) (λ e. head_of page.now ≡ Err e) }
+    ensures head { MatchResult result (λ h. head_of page.now ≡ Ok (plain h))
+        (λ e. head_of page.now ≡ Err e) }
     ensures lawful { IfOk result (λ h. IsHead (plain h)) }
     ensures memory { IfErr result (λ e. e ≢ LayoutFault.Memory) }
 {

@@ -1,5 +1,6 @@
 //! Laws over the definitions. Each is the contract of a function that does nothing.
-ghost use Rattle.page_layout.specs.Laws.{HeadsHaveOneSpelling, BodiesHaveOneSpelling, WrittenArePages};
+ghost use Rattle.page_layout.specs.Laws.{HeadsHaveOneSpelling, BodiesHaveOneSpelling};
+ghost use Rattle.page_layout.specs.Laws.{WrittenArePages};
 
 /// A page is read as what a head page says exactly where it is the written form of that.
 pub fn heads_have_one_spelling()

@@ -1,7 +1,11 @@
-ghost use Rattle.std.specs.Prelude.{◌≡◌, ◌≤◌, ◌<◌, ◌+◌, ℕ, [], ◌∷◌, ◌++◌, length, take, drop, set, replicate, Some, None, OnOk, OnErr, IfOk};
+//! A slot of a body page: one record with its line.
+
+ghost use Rattle.std.specs.Prelude.{◌≡◌, ◌≤◌, ◌<◌, ◌+◌, ℕ, [], ◌∷◌, ◌++◌, length, take, drop, set};
+ghost use Rattle.std.specs.Prelude.{replicate, Some, None, OnOk, OnErr, IfOk};
 ghost use Rattle.vec_record.specs.Limits.{width_of};
 ghost use Rattle.page_layout.specs.Heads.{values_of};
-ghost use Rattle.page_layout.specs.Bodies.{Rows, AreRows, IsSlot, lent, slots_in_page, slot_bytes, body_page};
+ghost use Rattle.page_layout.specs.Bodies.{IsSlot, lent, slots_in_page, slot_bytes};
+ghost use Rattle.page_layout.specs.Bodies.{body_page, PutsRow};
 
 use crate::field::put_words;
 use page_gate::Page;
@@ -120,7 +124,8 @@ pub fn clear_body(out: &mut Page)
 /// Writes a record from the offset on.
 fn put_slot(out: &mut Page, at: usize, slot: SlotView<'_>)
     requires { at + 16 + length slot.vector.now ≤ 16384 }
-    ensures { out.new ≡ take at out.old ++ slot_bytes (length slot.entry.vector.now) (Some (lent slot.entry)) ++ drop (at + 16 + length slot.entry.vector.now) out.old }
+    ensures { out.new ≡ take at out.old ++ slot_bytes (length slot.entry.vector.now)
+        (Some (lent slot.entry)) ++ drop (at + 16 + length slot.entry.vector.now) out.old }
 {
     put_words(out, at, &[slot.number, slot.count, slot.anchor, slot.label]);
     out.put(at + 16, slot.vector.as_slice());
@@ -130,7 +135,8 @@ fn put_slot(out: &mut Page, at: usize, slot: SlotView<'_>)
 pub fn write_slot(params: &Params, place: usize, slot: SlotView<'_>, out: &mut Page)
     requires place { place < slots_in_page (width_of params.now.metric params.now.dim) }
     requires slot { IsSlot (values_of params.now) (lent slot) }
-    ensures written { (rows : Rows) → AreRows (values_of params.now) rows → out.old ≡ body_page (width_of params.now.metric params.now.dim) rows → out.new ≡ body_page (width_of params.now.metric params.now.dim) (set rows place (Some (lent slot.entry))) }
+    ensures written { PutsRow (values_of params.now) place (Some (lent slot.entry))
+        out.old out.new }
 {
     let width = params.width() as usize;
     put_slot(out, 16 + (16 + width) * place, slot);

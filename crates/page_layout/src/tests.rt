@@ -1,3 +1,5 @@
+//! Pages by hand, and bytes changed in them.
+
 ghost use Rattle.std.specs.Prelude.{◌≡◌, ◌<◌};
 
 use crate::{

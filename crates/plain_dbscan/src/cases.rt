@@ -6,8 +6,10 @@ ghost use Rattle.std.specs.Ordering.{nat_cmp};
 ghost use Rattle.std.specs.BTreeSet.{contains};
 ghost use Rattle.std.specs.FinMap.Entries.{is_sorted};
 ghost use lib.Dec.{T};
-ghost use Rattle.plain_dbscan.specs.Cases.{new_number, clusters_of, growth, decline, insertion_events, deletion_events, cases_of};
-ghost use Rattle.plain_dbscan.specs.Across.{both_marks, is_core_alone, is_core_alone_of, is_in_both, is_label, labels_in, changed_in};
+ghost use Rattle.plain_dbscan.specs.Cases.{new_number, clusters_of, growth, decline};
+ghost use Rattle.plain_dbscan.specs.Cases.{insertion_events, deletion_events, cases_of};
+ghost use Rattle.plain_dbscan.specs.Across.{both_marks, is_core_alone, is_core_alone_of};
+ghost use Rattle.plain_dbscan.specs.Across.{is_in_both, is_label, labels_in, changed_in};
 
 use crate::marks::{Mark, Marks, find_mark, names_cluster};
 use std::alloc::{AllocError, Global};
@@ -78,7 +80,8 @@ fn label_across(both: &BothMarks, cluster: Number) -> Option<Number>
 
 /// Puts a label, if there is one, into a set.
 fn add_label(labels: &mut BTreeSet<Number>, label: Option<Number>) -> Result<(), AllocError>
-    ensures { OnOk result ((l : ℕ) → contains nat_cmp labels.new l ≡ (contains nat_cmp labels.old l || is_label l label)) }
+    ensures { OnOk result ((l : ℕ) → contains nat_cmp labels.new l
+        ≡ (contains nat_cmp labels.old l || is_label l label)) }
 {
     if let Some(label) = label {
         labels.insert(label)?;
@@ -100,7 +103,8 @@ fn has_lone_core(both: &[BothMarks]) -> bool
 
 /// The labels of the cores that aren't core in the other list.
 fn lone_labels(alloc: Global, both: &[BothMarks]) -> Result<BTreeSet<Number>, AllocError>
-    ensures { IfOk result (λ labels. (l : ℕ) → contains nat_cmp labels l ≡ list_any (is_core_alone_of l) both.now) }
+    ensures { IfOk result (λ labels. (l : ℕ) → contains nat_cmp labels l
+        ≡ list_any (is_core_alone_of l) both.now) }
 {
     let mut labels = BTreeSet::new(alloc);
     for marks in both {
@@ -115,7 +119,8 @@ fn labels_beyond(
     both: &[BothMarks],
     cluster: Number,
 ) -> Result<BTreeSet<Number>, AllocError>
-    ensures { IfOk result (λ labels. (k : ℕ) → contains nat_cmp labels k ≡ list_any (is_in_both cluster k) both.now) }
+    ensures { IfOk result (λ labels. (k : ℕ) → contains nat_cmp labels k
+        ≡ list_any (is_in_both cluster k) both.now) }
 {
     let mut labels = BTreeSet::new(alloc);
     for marks in both {
@@ -130,7 +135,8 @@ fn clusters_among(
     marks: &[(Number, Mark)],
     labels: &BTreeSet<Number>,
 ) -> Result<Vec<Number>, AllocError>
-    ensures { IfOk result (λ found. found.items ≡ filter (contains nat_cmp labels.now) (clusters_of marks.now)) }
+    ensures { IfOk result (λ found. found.items
+        ≡ filter (contains nat_cmp labels.now) (clusters_of marks.now)) }
 {
     let mut found = Vec::new(alloc);
     for &(number, mark) in marks {
@@ -201,7 +207,8 @@ fn push_grown(
     label: Number,
     out: &mut Events,
 ) -> Result<(), AllocError>
-    ensures { OnOk result (out.new ≡ out.old ++ growth label (labels_in both.now before.now label)) }
+    ensures { OnOk result (out.new
+        ≡ out.old ++ growth label (labels_in both.now before.now label)) }
 {
     let labels = labels_beyond(alloc, both, label)?;
     let old = clusters_among(alloc, before, &labels)?;
@@ -216,7 +223,8 @@ fn push_declined(
     label: Number,
     out: &mut Events,
 ) -> Result<(), AllocError>
-    ensures { OnOk result (out.new ≡ out.old ++ decline label (labels_in both.now after.now label)) }
+    ensures { OnOk result (out.new
+        ≡ out.old ++ decline label (labels_in both.now after.now label)) }
 {
     let labels = labels_beyond(alloc, both, label)?;
     let new = clusters_among(alloc, after, &labels)?;
@@ -280,10 +288,10 @@ fn push_deletion(
 
 /// Appends the events of one change, given the marks before and after it.
 ///
-/// The change is an insertion where `after` is the longer list, else a deletion. Events come by rising
-/// label of the cluster that grew or shrank, then by rising label on the other side. It takes the time
-/// of a sort of the lists, and of one more for each cluster that the change touched. Want of memory is
-/// its only other answer.
+/// The change is an insertion where `after` is the longer list, else a deletion. Events come by
+/// rising label of the cluster that grew or shrank, then by rising label on the other side. It
+/// takes the time of a sort of the lists, and of one more for each cluster that the change
+/// touched. Want of memory is its only other answer.
 #[tactic(auto, unfolding(crate::specs::Cases::cases_of))]
 pub fn cases_plain(
     alloc: Global,

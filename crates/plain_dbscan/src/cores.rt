@@ -1,13 +1,13 @@
 //! The cores among points, and the vectors of points packed in one block.
 
-ghost use Rattle.std.specs.Prelude.{◌≡◌, ◌≤◌, length, filter, IfOk};
+ghost use Rattle.std.specs.Prelude.{◌≡◌, length, IfOk};
 ghost use Rattle.std.specs.Ordering.{nat_cmp};
 ghost use Rattle.std.specs.FinMap.Entries.{is_sorted};
 ghost use lib.Dec.{T};
 ghost use Rattle.vec_record.specs.Vectors.{IsWidth};
-ghost use Rattle.plain_dbscan.specs.Marks.{Density};
-ghost use Rattle.plain_dbscan.specs.Points.{entries_of, AreOfWidth, OfOneWidth, is_core_point};
-ghost use Rattle.plain_dbscan.specs.Points.{ArePacked, ArePointSizes};
+ghost use Rattle.plain_dbscan.specs.Points.{entries_of, AreOfWidth, OfOneWidth};
+ghost use Rattle.plain_dbscan.specs.Points.{ArePacked};
+ghost use Rattle.plain_dbscan.specs.inside.Sizes.{AreCoresBy};
 
 use crate::points::Point;
 use std::alloc::{AllocError, Global};
@@ -48,7 +48,7 @@ pub fn find_cores<'a>(
 ) -> Result<Vec<Point<'a>>, AllocError>
     requires rising { T (is_sorted nat_cmp (entries_of points.now)) }
     requires lengths { length sizes.now ≡ length points.now }
-    ensures cores { IfOk result (λ cores. (d : Density) → d.minpts ≡ minpts → ArePointSizes d points.now sizes.now → cores.items ≡ filter (is_core_point d (entries_of points.now)) points.now) }
+    ensures cores { IfOk result (λ cores. AreCoresBy minpts points.now sizes.now cores.items) }
 {
     let mut cores = Vec::new(alloc);
     for (i, point) in points.iter().enumerate() {

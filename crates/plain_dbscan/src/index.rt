@@ -1,6 +1,7 @@
 //! What an index by distance promises.
 
-ghost use Rattle.std.specs.Prelude.{◌≡◌, ℕ, ◌+◌, ◌<◌, ◌≤◌, ◌↔◌, List, length, None, Some, Ok, OnOk, IfOk, IsTrue, true, false};
+ghost use Rattle.std.specs.Prelude.{◌≡◌, ℕ, ◌+◌, ◌<◌, ◌≤◌, ◌↔◌, List, length, None, Some, Ok, OnOk};
+ghost use Rattle.std.specs.Prelude.{IfOk, IsTrue, true, false};
 ghost use Rattle.std.specs.FinMap as map;
 ghost use Rattle.vec_record.specs.Vectors.{IsWidth};
 ghost use Rattle.vec_record.specs.Held.{Rows};
@@ -30,7 +31,8 @@ pub trait RangeIndex<M: Metric> {
     /// An index before and after a removal of a number and its vector.
     ghost removed: { Self → Self → ℕ → List ℕ → Type 0 };
 
-    /// Gives in `out`, in place of what it held, exactly the numbers within `eps` of the centre, rising.
+    /// Gives in `out`, in place of what it held, exactly the numbers within `eps` of the centre,
+    /// rising.
     ///
     /// The centre has the index's width. After an `Err` `out` holds no stated numbers.
     fn range<L: Ledger>(
@@ -67,8 +69,8 @@ pub trait RangeIndex<M: Metric> {
 
     /// Takes out a pair. It needs a vector of the width.
     ///
-    /// It answers false exactly where the index doesn't hold the pair, and then changes nothing and takes no
-    /// memory. After an `Err` the index stands for no stated pairs.
+    /// It answers false exactly where the index doesn't hold the pair, and then changes nothing
+    /// and takes no memory. After an `Err` the index stands for no stated pairs.
     fn remove<L: Ledger>(
         &mut self,
         number: Number,
@@ -76,8 +78,10 @@ pub trait RangeIndex<M: Metric> {
         steps: &mut Steps<L>,
     ) -> Result<bool, AllocError>
         requires width { length vector.now ≡ width self.old }
-        ensures present { IfOk result (λ found. IsTrue found ↔ (map.get (contents self.old) number ≡ Some vector.now)) }
-        ensures absent { (map.get (contents self.old) number ≡ Some vector.now → ⊥) → (result ≡ Ok false) × (self.new ≡ self.old) }
+        ensures present { IfOk result
+            (λ found. IsTrue found ↔ (map.get (contents self.old) number ≡ Some vector.now)) }
+        ensures absent { (map.get (contents self.old) number ≡ Some vector.now → ⊥)
+            → (result ≡ Ok false) × (self.new ≡ self.old) }
         ensures removed { result ≡ Ok true → removed self.old self.new number vector.now }
         ensures same_width { width self.new ≡ width self.old }
         ensures lawful_width { IsWidth (width self.old) }
@@ -85,8 +89,10 @@ pub trait RangeIndex<M: Metric> {
         ensures counted { steps.new ≤ steps.old + (16384 + cost self.old vector.now 0) };
 
     // An index after an insertion has the pair beside those that it had, and its width.
-    ghost inserts: { (before after : Self) (n : ℕ) (v : List ℕ) → inserted before after n v → (width after ≡ width before) × (contents after ≡ map.insert (contents before) n v) };
+    ghost inserts: { (before after : Self) (n : ℕ) (v : List ℕ) → inserted before after n v
+        → (width after ≡ width before) × (contents after ≡ map.insert (contents before) n v) };
 
     // An index after a removal has the pairs that it had without this one, and its width.
-    ghost removes: { (before after : Self) (n : ℕ) (v : List ℕ) → removed before after n v → (width after ≡ width before) × (contents after ≡ map.remove (contents before) n) };
+    ghost removes: { (before after : Self) (n : ℕ) (v : List ℕ) → removed before after n v
+        → (width after ≡ width before) × (contents after ≡ map.remove (contents before) n) };
 }

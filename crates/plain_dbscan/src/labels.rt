@@ -1,13 +1,14 @@
 //! Labels of cores, by joining those that are near each other.
 
-ghost use Rattle.std.specs.Prelude.{◌≡◌, ◌+◌, ◌*◌, ◌<◌, ◌≤◌, ℕ, List, length, map, slice_index, IfOk};
+ghost use Rattle.std.specs.Prelude.{◌≡◌, ◌+◌, ◌*◌, ◌<◌, ◌≤◌, length, IfOk};
 ghost use Rattle.std.specs.Ordering.{nat_cmp};
 ghost use Rattle.std.specs.FinMap.Entries.{is_sorted};
 ghost use lib.Dec.{T};
-ghost use Rattle.plain_dbscan.specs.Marks.{density, numbers_of};
+ghost use Rattle.plain_dbscan.specs.Marks.{density};
 ghost use Rattle.plain_dbscan.specs.Points.{entries_of, OfOneWidth, ArePacked};
 ghost use Rattle.plain_dbscan.specs.Merging.{AreLabels};
-ghost use Rattle.plain_dbscan.specs.inside.Roots.{AreParents, AreRoots, roots_of};
+ghost use Rattle.plain_dbscan.specs.inside.Roots.{AreParents, AreRoots, roots_of, all_roots};
+ghost use Rattle.plain_dbscan.specs.inside.Roots.{AreRootNumbers};
 
 use crate::points::Point;
 use crate::roots::{find_root, join_each, own_places};
@@ -50,7 +51,8 @@ fn join_rows<M: Metric, L: Ledger>(
 ) -> Result<Vec<usize>, AllocError>
     ensures lengths { IfOk result (λ parents. length parents.items ≡ length rows.now.rows) }
     ensures parents { IfOk result (λ parents. AreParents parents.items) }
-    ensures roots { IfOk result (λ parents. AreRoots parents.items (roots_of M.dist eps rows.now (length rows.now.rows))) }
+    ensures roots { IfOk result
+        (λ parents. AreRoots parents.items (all_roots M.dist eps rows.now)) }
     ensures few { steps.new ≤ steps.old + length rows.now.rows * length rows.now.rows }
     ensures counts { steps.old ≤ steps.new }
 {
@@ -70,7 +72,8 @@ fn root_numbers(
 ) -> Result<Vec<Number>, AllocError>
     requires lengths { length parents.old ≡ length cores.now }
     requires parents { AreParents parents.old }
-    ensures { IfOk result (λ labels. (roots : List ℕ) → AreRoots parents.old roots → labels.items ≡ map (slice_index (numbers_of (entries_of cores.now))) roots) }
+    ensures { IfOk result (λ labels. AreRootNumbers (entries_of cores.now) parents.old
+        labels.items) }
 {
     let mut labels = Vec::new(alloc);
     for i in 0..cores.len() {
@@ -94,7 +97,8 @@ pub fn find_labels<M: Metric, L: Ledger>(
     requires vectors { OfOneWidth cores.now }
     requires rising { T (is_sorted nat_cmp (entries_of cores.now)) }
     requires packed { ArePacked cores.now rows.now }
-    ensures labels { IfOk result (λ labels. AreLabels (density M.dist eps 0) (entries_of cores.now) labels.items) }
+    ensures labels { IfOk result
+        (λ labels. AreLabels (density M.dist eps 0) (entries_of cores.now) labels.items) }
     ensures few { steps.new ≤ steps.old + length cores.now * length cores.now }
     ensures counts { steps.old ≤ steps.new }
 {

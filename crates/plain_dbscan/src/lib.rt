@@ -1,12 +1,12 @@
 //! What density clusters are, and clustering by all pairs.
 //!
-//! The definitions of `specs/` say what a neighbourhood, a core, a cluster, a mark and a report are.
-//! They look at all pairs of records. [`cluster_plain`] computes the marks from them and is promised
-//! to give exactly theirs, for every lawful metric; [`laws`] ties the marks to the relations that a
-//! reader believes. [`cases_plain`] gives the events of one change, from the marks before and after
-//! it. [`find_mark`] looks up the mark of a number, and [`names_cluster`] says whether it is that of a
-//! cluster's least core. [`RangeIndex`] is what an index by distance is.
-//! It stands on `vec_record`.
+//! The definitions of `specs/` say what a neighbourhood, a core, a cluster, a mark and a report
+//! are. They look at all pairs of records. [`cluster_plain`] computes the marks from them and is
+//! promised to give exactly theirs, for every lawful metric; [`laws`] ties the marks to the
+//! relations that a reader believes. [`cases_plain`] gives the events of one change, from the
+//! marks before and after it. [`find_mark`] looks up the mark of a number, and [`names_cluster`]
+//! says whether it is that of a cluster's least core. [`RangeIndex`] is what an index by distance
+//! is. It stands on `vec_record`.
 #![tactic(auto)]
 
 pub mod cases;

@@ -6,7 +6,8 @@ ghost use Rattle.std.specs.FinMap as map;
 ghost use Rattle.std.specs.FinMap.Entries.{is_sorted};
 ghost use lib.Dec.{T};
 ghost use Rattle.plain_dbscan.specs.Marks.{density, marks_of};
-ghost use Rattle.plain_dbscan.specs.Points.{entries_of, OfOneWidth, ArePointSizes, is_near_row, mark_by_place};
+ghost use Rattle.plain_dbscan.specs.Points.{entries_of, OfOneWidth, ArePointSizes, is_near_row};
+ghost use Rattle.plain_dbscan.specs.Points.{mark_by_place};
 
 use crate::cores::{find_cores, pack, width_of};
 use crate::labels::find_labels;
@@ -17,7 +18,8 @@ use std::alloc::{AllocError, Global};
 use std::sync::ledger::Ledger;
 use vec_record::{Block, Metric, Number, Records, Steps, Vector};
 
-/// The mark of a vector that is no core: by the first of the cores near it, whose vectors are `rows`.
+/// The mark of a vector that is no core: by the first of the cores near it, whose vectors are
+/// `rows`.
 fn outer_mark<M: Metric, L: Ledger>(
     rows: &Block,
     labels: &[Number],
@@ -29,7 +31,8 @@ fn outer_mark<M: Metric, L: Ledger>(
     requires width { length vector.now ≡ rows.now.width }
     requires lengths { length labels.now ≡ length rows.now.rows }
     requires room { length rows.now.rows ≤ length near.old }
-    ensures mark { result ≡ mark_by_place labels.now (position (is_near_row M.dist eps vector.now) rows.now.rows) }
+    ensures mark { result ≡ mark_by_place labels.now
+        (position (is_near_row M.dist eps vector.now) rows.now.rows) }
     ensures few { steps.new ≤ steps.old + length rows.now.rows }
     ensures counts { steps.old ≤ steps.new }
     ensures room { length near.new ≡ length near.old }
@@ -54,7 +57,8 @@ fn mark_by_sizes<M: Metric, L: Ledger>(
     requires vectors { OfOneWidth points.now }
     requires rising { T (is_sorted nat_cmp (entries_of points.now)) }
     requires sizes { ArePointSizes (density M.dist eps minpts) points.now sizes.now }
-    ensures marks { IfOk result (λ marks. marks ≡ marks_of (density M.dist eps minpts) (entries_of points.now)) }
+    ensures marks { IfOk result
+        (λ marks. marks ≡ marks_of (density M.dist eps minpts) (entries_of points.now)) }
     ensures few { steps.new ≤ steps.old + 2 * length points.now * length points.now }
     ensures counts { steps.old ≤ steps.new }
 {
@@ -91,7 +95,8 @@ fn mark_points<M: Metric, L: Ledger>(
 ) -> Result<Marks, AllocError>
     requires vectors { OfOneWidth points.now }
     requires rising { T (is_sorted nat_cmp (entries_of points.now)) }
-    ensures marks { IfOk result (λ marks. marks ≡ marks_of (density M.dist eps minpts) (entries_of points.now)) }
+    ensures marks { IfOk result
+        (λ marks. marks ≡ marks_of (density M.dist eps minpts) (entries_of points.now)) }
     ensures few { steps.new ≤ steps.old + 3 * length points.now * length points.now }
     ensures counts { steps.old ≤ steps.new }
 {
@@ -110,7 +115,8 @@ pub fn cluster_plain<M: Metric, L: Ledger>(
     minpts: u32,
     steps: &mut Steps<L>,
 ) -> Result<Marks, AllocError>
-    ensures marks { IfOk result (λ marks. marks ≡ marks_of (density M.dist eps minpts) (map.entries records.now.vectors)) }
+    ensures marks { IfOk result
+        (λ marks. marks ≡ marks_of (density M.dist eps minpts) (map.entries records.now.vectors)) }
     ensures few { let n = map.len records.now.vectors in steps.new ≤ steps.old + 3 * n * n }
     ensures counts { steps.old ≤ steps.new }
 {

@@ -16,7 +16,8 @@ pub struct Point<'a> {
 
 /// All records as points, rising, by one walk over them.
 pub fn points_of(alloc: Global, records: &Records) -> Result<Vec<Point<'_>>, AllocError>
-    ensures entries { IfOk result (λ points. entries_of points.items ≡ map.entries records.now.vectors) }
+    ensures entries { IfOk result
+        (λ points. entries_of points.items ≡ map.entries records.now.vectors) }
     ensures vectors { IfOk result (λ points. AreOfWidth records.now.width points.items) }
 {
     let mut points = Vec::new(alloc);

@@ -1,8 +1,9 @@
 //! Trees of places, each known by its root, the least place in it.
 
-ghost use Rattle.std.specs.Prelude.{◌≡◌, ℕ, ◌<◌, List, length, slice_index, IfOk};
+ghost use Rattle.std.specs.Prelude.{◌≡◌, ◌<◌, length, slice_index, IfOk};
 ghost use Rattle.std.specs.List.{AllByRecursion, range_with_len};
-ghost use Rattle.plain_dbscan.specs.inside.Roots.{AreParents, AreRoots, joined_pair, joined_each};
+ghost use Rattle.plain_dbscan.specs.inside.Roots.{AreParents, IsRootOf, HaveRoots, joined_pair};
+ghost use Rattle.plain_dbscan.specs.inside.Roots.{joined_each};
 
 use std::alloc::{AllocError, Global};
 
@@ -22,8 +23,8 @@ pub fn own_places(alloc: Global, count: usize) -> Result<Vec<usize>, AllocError>
 pub fn find_root(parents: &mut [usize], place: usize) -> usize
     requires place { place < length parents.old }
     requires parents { AreParents parents.old }
-    ensures root { (roots : List ℕ) → AreRoots parents.old roots → result ≡ slice_index roots place }
-    ensures roots { (roots : List ℕ) → AreRoots parents.old roots → AreRoots parents.new roots }
+    ensures root { IsRootOf parents.old place result }
+    ensures roots { HaveRoots parents.old parents.new (λ roots. roots) }
     ensures parents { AreParents parents.new }
     ensures lengths { length parents.new ≡ length parents.old }
     ensures below { result < length parents.old }
@@ -43,7 +44,7 @@ fn join(parents: &mut [usize], i: usize, j: usize)
     requires first { i < length parents.old }
     requires second { j < length parents.old }
     requires parents { AreParents parents.old }
-    ensures roots { (roots : List ℕ) → AreRoots parents.old roots → AreRoots parents.new (joined_pair i j roots) }
+    ensures roots { HaveRoots parents.old parents.new (joined_pair i j) }
     ensures parents { AreParents parents.new }
     ensures lengths { length parents.new ≡ length parents.old }
 {
@@ -61,7 +62,7 @@ pub fn join_each(parents: &mut [usize], i: usize, places: &[usize])
     requires first { i < length parents.old }
     requires places { AllByRecursion (λ k. k < length parents.old) places.now }
     requires parents { AreParents parents.old }
-    ensures roots { (roots : List ℕ) → AreRoots parents.old roots → AreRoots parents.new (joined_each i places.now roots) }
+    ensures roots { HaveRoots parents.old parents.new (joined_each i places.now) }
     ensures parents { AreParents parents.new }
     ensures lengths { length parents.new ≡ length parents.old }
 {

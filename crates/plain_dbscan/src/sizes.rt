@@ -1,8 +1,8 @@
 //! How many rows of a block are near each row. Each pair of rows is looked at once.
 
-ghost use Rattle.std.specs.Prelude.{◌≡◌, ℕ, ◌+◌, ◌*◌, ◌<◌, ◌≤◌, ◌^◌, ◌==◌, length, slice_index, count_by, IfOk};
+ghost use Rattle.std.specs.Prelude.{◌≡◌, ◌+◌, ◌*◌, ◌<◌, ◌≤◌, length, IfOk};
 ghost use Rattle.std.specs.List.{AllByRecursion};
-ghost use Rattle.plain_dbscan.specs.inside.Sizes.{AreSizes, ArePaired};
+ghost use Rattle.plain_dbscan.specs.inside.Sizes.{AreSizes, ArePaired, HaveRoom, AreMore};
 
 use std::alloc::{AllocError, Global};
 use std::sync::ledger::Ledger;
@@ -11,9 +11,9 @@ use vec_record::{Block, Metric, Steps};
 /// Counts one more at each of the places.
 fn count_each(sizes: &mut [usize], places: &[usize])
     requires places { AllByRecursion (λ k. k < length sizes.old) places.now }
-    requires room { (k : ℕ) → k < length sizes.old → slice_index sizes.old k + length places.now < 2 ^ 64 }
+    requires room { HaveRoom sizes.old (length places.now) }
     ensures lengths { length sizes.new ≡ length sizes.old }
-    ensures counts { (k : ℕ) → k < length sizes.old → slice_index sizes.new k ≡ slice_index sizes.old k + count_by (λ q. q == k) places.now }
+    ensures counts { AreMore sizes.old sizes.new places.now }
 {
     for place in places {
         sizes[*place] += 1;

@@ -2,6 +2,7 @@
 use Rattle.std.specs.Prelude.{◌≡◌, ℕ, ◌++◌, nat_le, if◌then◌else◌, List, length, Option, Some, None, Result, Ok, Err, codes}
 use Rattle.std.specs.Fmt.{decimal}
 use Rattle.std.specs.FinMap as map
+use Rattle.vec_record.specs.declared.params.Params.{Params}
 use Rattle.vec_record.specs.Distance.{distance_of}
 use Rattle.vec_record.specs.Held.{Rows}
 use Rattle.plain_dbscan.specs.Marks.{density, marks_of}
@@ -10,7 +11,7 @@ use Rattle.session_desk.specs.declared.status.Status as status
 use Rattle.session_desk.specs.declared.status.Status.TheVariants.{Fine, Refused, Words, TooLong}
 use Rattle.session_desk.specs.declared.input.Refusal.{Refusal}
 use Rattle.session_desk.specs.declared.input.Refusal.TheVariants.{LongLine, TooManyRecords, Malformed, WrongLength, Repeated, Unknown, Full}
-use Rattle.session_desk.specs.Words.{Setting}
+use Rattle.session_desk.specs.Words.{Setting, setting}
 use Rattle.session_desk.specs.Input.{rows_of}
 
 pub record Due : Type 0 where
@@ -68,6 +69,10 @@ input_limit = 67108864
 -- the answer to an input
 abbrev pub answer_to : Setting → List ℕ → Due
 answer_to s input = if nat_le (length input) input_limit then report_on s (rows_of s.metric s.dim input) else due TooLong (codes "session too long\n")
+
+-- the answer to an input under parameters
+abbrev pub answer_under : Params → List ℕ → Due
+answer_under p input = answer_to (setting p.metric p.dim p.eps p.minpts) input
 
 -- The words are judged first, then the length of the input, then its records.
 abbrev pub answer_of : Option Setting → List ℕ → Due

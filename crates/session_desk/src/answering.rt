@@ -1,5 +1,6 @@
 //! The answer to one request.
-ghost use Rattle.std.specs.Prelude.{◌≡◌, ◌≤◌, ◌++◌, ◌⊎◌, ℕ, List, Bool, true, false, Ok, Err, None, IsTrue, IfOk, IfErr, OnOk, length};
+ghost use Rattle.std.specs.Prelude.{◌≡◌, ◌≤◌, ◌++◌, ◌⊎◌, ℕ, List, Bool, true, false, Ok, Err, None};
+ghost use Rattle.std.specs.Prelude.{IsTrue, IfOk, IfErr, OnOk, length};
 ghost use Rattle.site_disk.specs.Causes.{Rose};
 ghost use Rattle.site_disk.specs.State.{Safe, Joins};
 ghost use Rattle.page_gate.specs.Promises.{Holds};
@@ -37,7 +38,8 @@ fn judge(refusal: Refusal) -> Result<(u32, Option<u32>), Status>
 
 /// Appends a refusal; it answers that there was one.
 fn refuse(number: u32, place: Option<u32>, out: &mut Bytes) -> Result<bool, Status>
-    ensures ok { IfOk result (λ refused. (refused ≡ true) × (out.new ≡ out.old ++ line_of_refusal number place)) }
+    ensures ok { IfOk result (λ refused. (refused ≡ true)
+        × (out.new ≡ out.old ++ line_of_refusal number place)) }
     ensures err { IfErr result (λ status. status ≡ Status.Memory) }
 {
     match refusal_line(number, place, out) {
@@ -49,7 +51,9 @@ fn refuse(number: u32, place: Option<u32>, out: &mut Bytes) -> Result<bool, Stat
 /// Appends the report.
 fn report<M: Metric>(warehouse: &Warehouse<M>, out: &mut Bytes) -> Result<bool, Status>
     requires { IsServing warehouse.now }
-    ensures report { (q : Request) → IsAsked (Asked.Line Line.Report) q → IfOk result (λ refused. IsAnswered warehouse.now q refused warehouse.now out.old out.new) }
+    ensures report { (q : Request) → IsAsked (Asked.Line Line.Report) q
+        → IfOk result (λ refused. IsAnswered warehouse.now q refused warehouse.now out.old
+        out.new) }
     ensures err { IfErr result (λ status. status ≡ Status.Memory) }
 {
     let Ok(marks) = warehouse.marks() else {
@@ -68,7 +72,9 @@ fn answer_line<M: Metric>(
     out: &mut Bytes,
 ) -> Result<bool, Status>
     requires { IsServing warehouse.now }
-    ensures answered { (q : Request) → IsAsked (Asked.Line line) q → IfOk result (λ refused. IsAnswered warehouse.now q refused warehouse.now out.old out.new) }
+    ensures answered { (q : Request) → IsAsked (Asked.Line line) q
+        → IfOk result (λ refused. IsAnswered warehouse.now q refused warehouse.now out.old
+        out.new) }
     ensures err { IfErr result (λ status. status ≡ Status.Memory) }
 {
     match line {
@@ -91,11 +97,18 @@ fn answer_batch<M: Metric, T: Site, L: Ledger>(
     requires ready { IsTrue T.tells → Holds warehouse.old.pages (T.state site.old) }
     ensures serving { OnOk result (IsServing warehouse.new) }
     ensures ready { IsTrue T.tells → OnOk result (Holds warehouse.new.pages (T.state site.new)) }
-    ensures answered { (lines : List (List ℕ)) → IsAsked (Asked.Batch body.now) (Request.Batch lines) → IfOk result (λ refused. IsAnswered warehouse.old (Request.Batch lines) refused warehouse.new out.old out.new) }
-    ensures moments { IsTrue T.tells → (lines : List (List ℕ)) → IsAsked (Asked.Batch body.now) (Request.Batch lines) → Answering warehouse.old (Request.Batch lines) result (T.state site.old) (T.state site.new) }
+    ensures answered { (lines : List (List ℕ))
+        → IsAsked (Asked.Batch body.now) (Request.Batch lines)
+        → IfOk result (λ refused. IsAnswered warehouse.old (Request.Batch lines) refused
+        warehouse.new out.old out.new) }
+    ensures moments { IsTrue T.tells → (lines : List (List ℕ))
+        → IsAsked (Asked.Batch body.now) (Request.Batch lines)
+        → Answering warehouse.old (Request.Batch lines) result (T.state site.old)
+        (T.state site.new) }
     ensures joins { IsTrue T.tells → Joins (T.state site.old) (T.state site.new) }
     ensures said { IsTrue T.tells → (T.state site.new).said ≡ (T.state site.old).said }
-    ensures status { IfErr result (λ status. (status ≡ Status.SiteFault) ⊎ (status ≡ Status.Memory)) }
+    ensures status { IfErr result
+        (λ status. (status ≡ Status.SiteFault) ⊎ (status ≡ Status.Memory)) }
     ensures fault { result ≡ Err Status.SiteFault → Rose (T.faults site.old) (T.faults site.new) }
     ensures later { T.faults site.old ≤ T.faults site.new }
 {
@@ -121,11 +134,15 @@ pub fn answer<M: Metric, T: Site, L: Ledger>(
     requires ready { IsTrue T.tells → Holds warehouse.old.pages (T.state site.old) }
     ensures serving { OnOk result (IsServing warehouse.new) }
     ensures ready { IsTrue T.tells → OnOk result (Holds warehouse.new.pages (T.state site.new)) }
-    ensures answered { (q : Request) → IsAsked asked q → IfOk result (λ refused. IsAnswered warehouse.old q refused warehouse.new out.old out.new) }
-    ensures moments { IsTrue T.tells → (q : Request) → IsAsked asked q → Answering warehouse.old q result (T.state site.old) (T.state site.new) }
+    ensures answered { (q : Request) → IsAsked asked q
+        → IfOk result (λ refused. IsAnswered warehouse.old q refused warehouse.new out.old
+        out.new) }
+    ensures moments { IsTrue T.tells → (q : Request) → IsAsked asked q
+        → Answering warehouse.old q result (T.state site.old) (T.state site.new) }
     ensures joins { IsTrue T.tells → Joins (T.state site.old) (T.state site.new) }
     ensures said { IsTrue T.tells → (T.state site.new).said ≡ (T.state site.old).said }
-    ensures status { IfErr result (λ status. (status ≡ Status.SiteFault) ⊎ (status ≡ Status.Memory)) }
+    ensures status { IfErr result
+        (λ status. (status ≡ Status.SiteFault) ⊎ (status ≡ Status.Memory)) }
     ensures fault { result ≡ Err Status.SiteFault → Rose (T.faults site.old) (T.faults site.new) }
     ensures later { T.faults site.old ≤ T.faults site.new }
 {

@@ -39,10 +39,15 @@ fn make_first_page(alloc: Global, params: &Params) -> Result<Page, AllocError>
 /// Makes a store of a blank file, and says so.
 fn bear<T: Site>(alloc: Global, params: &Params, site: &mut T) -> Status
     requires { IsTrue T.tells → IsUnborn (T.state site.old) }
-    ensures moments { IsTrue T.tells → Safe (T.state site.old) (T.state site.new) (IsBearing (values_of params.now) (T.state site.old)) }
-    ensures text { IsTrue T.tells → result ≡ Status.Fine → (T.state site.new).said ≡ (T.state site.old).said ++ codes "born\n" }
-    ensures holds { IsTrue T.tells → result ≡ Status.Fine → Holds (new_pages (values_of params.now)) (T.state site.new) }
-    ensures status { (result ≡ Status.Fine) ⊎ (result ≡ Status.SiteFault) ⊎ (result ≡ Status.Memory) }
+    ensures moments { IsTrue T.tells
+        → Safe (T.state site.old) (T.state site.new)
+        (IsBearing (values_of params.now) (T.state site.old)) }
+    ensures text { IsTrue T.tells → result ≡ Status.Fine → (T.state site.new).said
+        ≡ (T.state site.old).said ++ codes "born\n" }
+    ensures holds { IsTrue T.tells → result ≡ Status.Fine
+        → Holds (new_pages (values_of params.now)) (T.state site.new) }
+    ensures status { (result ≡ Status.Fine) ⊎ (result ≡ Status.SiteFault)
+        ⊎ (result ≡ Status.Memory) }
     ensures fault { result ≡ Status.SiteFault → Rose (T.faults site.old) (T.faults site.new) }
     ensures later { T.faults site.old ≤ T.faults site.new }
 {
@@ -57,11 +62,17 @@ fn bear<T: Site>(alloc: Global, params: &Params, site: &mut T) -> Status
 
 /// Makes a store where the file is blank, and says so, or says that there is one.
 pub fn init<T: Site>(alloc: Global, params: &Params, site: &mut T) -> Status
-    ensures moments { IsTrue T.tells → Safe (T.state site.old) (T.state site.new) (IsBirthMoment (values_of params.now) (T.state site.old)) }
-    ensures status { IsTrue T.tells → is_fault result ≡ false → result ≡ (birth_due (has_no_store (T.state site.old).content)).status }
-    ensures text { IsTrue T.tells → is_fault result ≡ false → (T.state site.new).said ≡ (T.state site.old).said ++ (birth_due (has_no_store (T.state site.old).content)).text }
-    ensures born { IsTrue T.tells → IsBorn (values_of params.now) result (T.state site.old) (T.state site.new) }
-    ensures answers { (result ≡ Status.Fine) ⊎ (result ≡ Status.Exists) ⊎ (result ≡ Status.SiteFault) ⊎ (result ≡ Status.Memory) }
+    ensures moments { IsTrue T.tells
+        → Safe (T.state site.old) (T.state site.new)
+        (IsBirthMoment (values_of params.now) (T.state site.old)) }
+    ensures status { IsTrue T.tells → is_fault result ≡ false → result
+        ≡ (birth_due (has_no_store (T.state site.old).content)).status }
+    ensures text { IsTrue T.tells → is_fault result ≡ false → (T.state site.new).said
+        ≡ (T.state site.old).said ++ (birth_due (has_no_store (T.state site.old).content)).text }
+    ensures born { IsTrue T.tells
+        → IsBorn (values_of params.now) result (T.state site.old) (T.state site.new) }
+    ensures answers { (result ≡ Status.Fine) ⊎ (result ≡ Status.Exists)
+        ⊎ (result ≡ Status.SiteFault) ⊎ (result ≡ Status.Memory) }
     ensures fault { result ≡ Status.SiteFault → Rose (T.faults site.old) (T.faults site.new) }
     ensures later { T.faults site.old ≤ T.faults site.new }
 {

@@ -1,5 +1,6 @@
 //! The session over a warehouse that was loaded.
-ghost use Rattle.std.specs.Prelude.{◌≡◌, ◌≤◌, ◌+◌, ◌++◌, ◌⊎◌, ℕ, List, [], false, true, Ok, Err, IsTrue, IfOk, IfErr, OnOk, length, codes, if◌then◌else◌};
+ghost use Rattle.std.specs.Prelude.{◌≡◌, ◌≤◌, ◌+◌, ◌++◌, ◌⊎◌, ℕ, List, [], false, true, Ok, Err};
+ghost use Rattle.std.specs.Prelude.{IsTrue, IfOk, IfErr, OnOk, length, codes, if◌then◌else◌};
 ghost use Rattle.site_disk.specs.Causes.{Rose};
 ghost use Rattle.site_disk.specs.State.{Safe, Joins};
 ghost use Rattle.page_gate.specs.Promises.{Holds};
@@ -9,7 +10,8 @@ ghost use Rattle.session_desk.specs.Reading.{IsTaken};
 ghost use Rattle.session_desk.specs.Moments.{IsSaying, LeavesAlone};
 ghost use Rattle.session_desk.specs.Session.{Request};
 ghost use Rattle.session_desk.specs.Asking.{IsAsked};
-ghost use Rattle.session_desk.specs.Talks.{IsServing, IsNextState, answer_on, IsReplying, IsTalk, Concludes, IsCutOff, IsKept, IsEven};
+ghost use Rattle.session_desk.specs.Talks.{IsServing, IsNextState, answer_on, IsReplying, IsTalk};
+ghost use Rattle.session_desk.specs.Talks.{Concludes, IsCutOff, IsKept, IsEven};
 
 use crate::answering::answer;
 use crate::lines::LineReader;
@@ -32,8 +34,8 @@ struct Session<M: Metric> {
 }
 
 impl<M: Metric> Session<M> {
-    /// One step: answers a request and says the answer. It tells whether that is a refusal, or the status that ends
-    /// the run.
+    /// One step: answers a request and says the answer. It tells whether that is a refusal, or the
+    /// status that ends the run.
     fn step<T: Site, L: Ledger>(
         &mut self,
         asked: Asked,
@@ -44,17 +46,31 @@ impl<M: Metric> Session<M> {
         requires body { (body : List ℕ) → asked ≡ Asked.Batch body → length body ≤ 67_108_864 }
         requires ready { IsTrue T.tells → Holds self.old.warehouse.pages (T.state site.old) }
         ensures serving { OnOk result (IsServing self.new.warehouse) }
-        ensures ready { IsTrue T.tells → OnOk result (Holds self.new.warehouse.pages (T.state site.new)) }
-        ensures state { (q : Request) → IsAsked asked q → OnOk result (IsNextState self.old.warehouse (answer_on self.old.warehouse q) self.new.warehouse) }
-        ensures refused { (q : Request) → IsAsked asked q → IfOk result (λ refused. refused ≡ (answer_on self.old.warehouse q).refused) }
-        ensures said { IsTrue T.tells → (q : Request) → IsAsked asked q → OnOk result ((T.state site.new).said ≡ (T.state site.old).said ++ (answer_on self.old.warehouse q).text) }
-        ensures moments { IsTrue T.tells → (q : Request) → IsAsked asked q → Safe (T.state site.old) (T.state site.new) (IsReplying self.old.warehouse q (T.state site.old)) }
-        ensures unsaved { IsTrue T.tells → (q : Request) → IsAsked asked q → result ≡ Err Status.Memory → (c : List ℕ) → (T.state site.new).may_leave c → IsBefore self.old.warehouse c }
-        ensures unsaid { IsTrue T.tells → result ≡ Err Status.Memory → (T.state site.new).said ≡ (T.state site.old).said }
+        ensures ready { IsTrue T.tells
+            → OnOk result (Holds self.new.warehouse.pages (T.state site.new)) }
+        ensures state { (q : Request) → IsAsked asked q
+            → OnOk result (IsNextState self.old.warehouse (answer_on self.old.warehouse q)
+            self.new.warehouse) }
+        ensures refused { (q : Request) → IsAsked asked q
+            → IfOk result (λ refused. refused ≡ (answer_on self.old.warehouse q).refused) }
+        ensures said { IsTrue T.tells → (q : Request) → IsAsked asked q
+            → OnOk result ((T.state site.new).said
+            ≡ (T.state site.old).said ++ (answer_on self.old.warehouse q).text) }
+        ensures moments { IsTrue T.tells → (q : Request) → IsAsked asked q
+            → Safe (T.state site.old) (T.state site.new)
+            (IsReplying self.old.warehouse q (T.state site.old)) }
+        ensures unsaved { IsTrue T.tells → (q : Request) → IsAsked asked q → result
+            ≡ Err Status.Memory → (c : List ℕ) → (T.state site.new).may_leave c
+            → IsBefore self.old.warehouse c }
+        ensures unsaid { IsTrue T.tells → result ≡ Err Status.Memory → (T.state site.new).said
+            ≡ (T.state site.old).said }
         ensures joins { IsTrue T.tells → Joins (T.state site.old) (T.state site.new) }
-        ensures begins { IsTrue T.tells → (more : List ℕ) × ((T.state site.new).said ≡ (T.state site.old).said ++ more) }
-        ensures status { IfErr result (λ status. (status ≡ Status.SiteFault) ⊎ (status ≡ Status.Memory)) }
-        ensures fault { result ≡ Err Status.SiteFault → Rose (T.faults site.old) (T.faults site.new) }
+        ensures begins { IsTrue T.tells → (more : List ℕ)
+            × ((T.state site.new).said ≡ (T.state site.old).said ++ more) }
+        ensures status { IfErr result
+            (λ status. (status ≡ Status.SiteFault) ⊎ (status ≡ Status.Memory)) }
+        ensures fault { result ≡ Err Status.SiteFault
+            → Rose (T.faults site.old) (T.faults site.new) }
         ensures later { T.faults site.old ≤ T.faults site.new }
     {
         loads_are_stores();
@@ -80,15 +96,20 @@ fn end_of(refused: bool) -> Status
 
 /// Ends a session whose input gives no further request before its end.
 fn break_off<T: Site>(site: &mut T, fault: ReadFault) -> Status
-    ensures status { (result ≡ Status.SourceFault) ⊎ (result ≡ Status.TooLong) ⊎ (result ≡ Status.Memory) ⊎ (result ≡ Status.SiteFault) }
+    ensures status { (result ≡ Status.SourceFault) ⊎ (result ≡ Status.TooLong)
+        ⊎ (result ≡ Status.Memory) ⊎ (result ≡ Status.SiteFault) }
     ensures source { result ≡ Status.SourceFault → fault ≡ ReadFault.Source }
     ensures memory { result ≡ Status.Memory → fault ≡ ReadFault.Memory }
     ensures too_long { result ≡ Status.TooLong → fault ≡ ReadFault.TooMuch }
     ensures still { (fault ≡ ReadFault.TooMuch → ⊥) → site.new ≡ site.old }
-    ensures said { IsTrue T.tells → result ≡ Status.TooLong → (T.state site.new).said ≡ (T.state site.old).said ++ codes "session too long\n" }
-    ensures moments { IsTrue T.tells → Safe (T.state site.old) (T.state site.new) (IsSaying (T.state site.old) (codes "session too long\n")) }
+    ensures said { IsTrue T.tells → result ≡ Status.TooLong → (T.state site.new).said
+        ≡ (T.state site.old).said ++ codes "session too long\n" }
+    ensures moments { IsTrue T.tells
+        → Safe (T.state site.old) (T.state site.new)
+        (IsSaying (T.state site.old) (codes "session too long\n")) }
     ensures alone { IsTrue T.tells → LeavesAlone (T.state site.old) (T.state site.new) }
-    ensures begins { IsTrue T.tells → (more : List ℕ) × ((T.state site.new).said ≡ (T.state site.old).said ++ more) }
+    ensures begins { IsTrue T.tells → (more : List ℕ)
+        × ((T.state site.new).said ≡ (T.state site.old).said ++ more) }
     ensures fault { result ≡ Status.SiteFault → Rose (T.faults site.old) (T.faults site.new) }
     ensures later { T.faults site.old ≤ T.faults site.new }
 {
@@ -109,18 +130,31 @@ pub fn converse<M: Metric, S: Source, T: Site, L: Ledger>(
 ) -> Status
     requires serving { IsServing warehouse }
     requires ready { IsTrue T.tells → Holds warehouse.pages (T.state site.old) }
-    ensures answers { IsTrue S.tells → IsTrue T.tells → is_fault result ≡ false → Concludes warehouse (S.left source.old) result (T.state site.old) (T.state site.new) }
-    ensures whole { IsTrue S.tells → IsTrue T.tells → result ≡ Status.SourceFault → IsCutOff warehouse (S.left source.old) (S.left source.new) (T.state site.old) (T.state site.new) }
-    ensures moments { IsTrue S.tells → IsTrue T.tells → Safe (T.state site.old) (T.state site.new) (IsTalk warehouse (S.left source.old) (T.state site.old)) }
-    ensures end { IsTrue S.tells → IsTrue T.tells → is_fault result ≡ false → IsKept warehouse (S.left source.old) (T.state site.new) }
-    ensures settled { IsTrue S.tells → IsTrue T.tells → (result ≡ Status.SourceFault) ⊎ (result ≡ Status.Memory) → IsEven warehouse (S.left source.old) (T.state site.old) (T.state site.new) }
-    ensures status { (result ≡ Status.Fine) ⊎ (result ≡ Status.Refused) ⊎ (result ≡ Status.TooLong) ⊎ (is_fault result ≡ true) }
+    ensures answers { IsTrue S.tells → IsTrue T.tells → is_fault result ≡ false
+        → Concludes warehouse (S.left source.old) result (T.state site.old) (T.state site.new) }
+    ensures whole { IsTrue S.tells → IsTrue T.tells → result ≡ Status.SourceFault
+        → IsCutOff warehouse (S.left source.old) (S.left source.new) (T.state site.old)
+        (T.state site.new) }
+    ensures moments { IsTrue S.tells → IsTrue T.tells
+        → Safe (T.state site.old) (T.state site.new)
+        (IsTalk warehouse (S.left source.old) (T.state site.old)) }
+    ensures end { IsTrue S.tells → IsTrue T.tells → is_fault result ≡ false
+        → IsKept warehouse (S.left source.old) (T.state site.new) }
+    ensures settled { IsTrue S.tells → IsTrue T.tells → (result ≡ Status.SourceFault)
+        ⊎ (result ≡ Status.Memory)
+        → IsEven warehouse (S.left source.old) (T.state site.old) (T.state site.new) }
+    ensures status { (result ≡ Status.Fine) ⊎ (result ≡ Status.Refused) ⊎ (result ≡ Status.TooLong)
+        ⊎ (is_fault result ≡ true) }
     ensures site { result ≡ Status.SiteFault → Rose (T.faults site.old) (T.faults site.new) }
-    ensures source { result ≡ Status.SourceFault → Rose (S.faults source.old) (S.faults source.new) }
+    ensures source { result ≡ Status.SourceFault
+        → Rose (S.faults source.old) (S.faults source.new) }
     ensures joins { IsTrue T.tells → Joins (T.state site.old) (T.state site.new) }
-    ensures begins { IsTrue T.tells → (more : List ℕ) × ((T.state site.new).said ≡ (T.state site.old).said ++ more) }
-    ensures taken { IsTrue S.tells → IsTaken (INPUT_LIMIT + 1) (S.left source.old) (S.left source.new) }
-    ensures ended { IsTrue S.tells → (result ≡ Status.Fine) ⊎ (result ≡ Status.Refused) → S.left source.new ≡ [] }
+    ensures begins { IsTrue T.tells → (more : List ℕ)
+        × ((T.state site.new).said ≡ (T.state site.old).said ++ more) }
+    ensures taken { IsTrue S.tells
+        → IsTaken (INPUT_LIMIT + 1) (S.left source.old) (S.left source.new) }
+    ensures ended { IsTrue S.tells → (result ≡ Status.Fine) ⊎ (result ≡ Status.Refused)
+        → S.left source.new ≡ [] }
     ensures source_later { S.faults source.old ≤ S.faults source.new }
     ensures site_later { T.faults site.old ≤ T.faults site.new }
 {

@@ -1,13 +1,15 @@
 //! The input of `once`: the records of one batch over none, or its refusal.
 
-ghost use Rattle.std.specs.Prelude.{◌≡◌, ◌<◌, ◌≤◌, ◌+◌, ◌^◌, [], ℕ, length, IfOk, IsOk, OnOk, Ok, Err};
+ghost use Rattle.std.specs.Prelude.{◌≡◌, ◌<◌, ◌≤◌, ◌+◌, ◌^◌, [], ℕ, length, IfOk, IsOk, OnOk, Ok};
+ghost use Rattle.std.specs.Prelude.{Err};
 ghost use Rattle.std.specs.FinMap as map;
 ghost use Rattle.std.specs.List.{AllByRecursion};
 ghost use Rattle.vec_record.specs.Limits.{width_of};
 ghost use Rattle.batch_text.specs.After.{after};
 ghost use Rattle.batch_text.specs.Batch.{IsChangeOf, said_by};
 ghost use Rattle.batch_text.specs.Records.{records_of};
-ghost use Rattle.session_desk.specs.Input.{has_long_line as is_any_long, unless_refused, unless_faulty, rows_after, rows_of};
+ghost use Rattle.session_desk.specs.Input.{has_long_line as is_any_long, unless_refused};
+ghost use Rattle.session_desk.specs.Input.{unless_faulty, rows_after, rows_of};
 ghost use Rattle.session_desk.specs.declared.input.Refusal.{Refusal as Refusals};
 
 use crate::reading::INPUT_LIMIT;
@@ -92,7 +94,8 @@ fn check(
 ) -> Result<(), InputFault>
     requires few { length changes.now < 2 ^ 32 }
     ensures ok { OnOk result (IsOk (after params.now.cap records.now.vectors changes.now)) }
-    ensures refused { (r : Refusals) → result ≡ Err (InputFault.Refused r) → (next : _) → unless_refused (after params.now.cap records.now.vectors changes.now) next ≡ Err r }
+    ensures refused { (r : Refusals) → result ≡ Err (InputFault.Refused r) → (next : _)
+        → unless_refused (after params.now.cap records.now.vectors changes.now) next ≡ Err r }
 {
     match check_batch(alloc, records, params, changes) {
         Ok(()) => Ok(()),
@@ -117,9 +120,11 @@ fn refusal_at(fault: LineFault, place: u32) -> Refusal
 fn records_after(alloc: Global, params: &Params, batch: ReadBatch) -> Result<Records, InputFault>
     requires cap { params.now.cap ≡ 200000 }
     requires few { length batch.changes ≤ 100000 }
-    requires fits { AllByRecursion (IsChangeOf (width_of params.now.metric params.now.dim)) batch.changes }
+    requires fits { AllByRecursion (IsChangeOf (width_of params.now.metric params.now.dim))
+        batch.changes }
     ensures ok { IfOk result (λ records. rows_after batch ≡ Ok records.vectors) }
-    ensures refused { (r : Refusals) → result ≡ Err (InputFault.Refused r) → rows_after batch ≡ Err r }
+    ensures refused { (r : Refusals) → result ≡ Err (InputFault.Refused r) → rows_after batch
+        ≡ Err r }
 {
     let mut records = Records::new(alloc, params.width());
     check(alloc, &records, params, &batch.changes)?;
@@ -137,8 +142,10 @@ fn records_after(alloc: Global, params: &Params, batch: ReadBatch) -> Result<Rec
 pub fn read_records(alloc: Global, params: &Params, input: &[u8]) -> Result<Records, InputFault>
     requires cap { params.now.cap ≡ 200000 }
     requires few { length input.now ≤ INPUT_LIMIT }
-    ensures ok { IfOk result (λ records. rows_of params.now.metric params.now.dim input.now ≡ Ok records.vectors) }
-    ensures refused { (r : Refusals) → result ≡ Err (InputFault.Refused r) → rows_of params.now.metric params.now.dim input.now ≡ Err r }
+    ensures ok { IfOk result (λ records. rows_of params.now.metric params.now.dim input.now
+        ≡ Ok records.vectors) }
+    ensures refused { (r : Refusals) → result ≡ Err (InputFault.Refused r)
+        → rows_of params.now.metric params.now.dim input.now ≡ Err r }
 {
     if has_long_line(input) {
         return Err(InputFault::Refused(Refusal::LongLine));

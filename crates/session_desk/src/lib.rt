@@ -1,7 +1,7 @@
 //! The top call: all that the program does, over any source of input and any site.
 //!
-//! It stands on every layer below. [`run`] carries the promise of the whole: what is said, with which
-//! status, and when each status may come, as functions of the words and the whole input.
+//! It stands on every layer below. [`run`] carries the promise of the whole: what is said, with
+//! which status, and when each status may come, as functions of the words and the whole input.
 #![tactic(auto)]
 
 mod answering;

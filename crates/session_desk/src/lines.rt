@@ -1,10 +1,13 @@
 //! The lines of a session, read from a source piece by piece.
 
-ghost use Rattle.std.specs.Prelude.{◌≡◌, ◌≤◌, ◌<◌, ◌+◌, ◌-◌, ◌++◌, ◌||◌, [], Ok, ℕ, Bool, List, true, false, nat_lt, min, length, drop, take, is_err, IfOk, OnOk, OnErr, IsErrOf, IsTrue, if◌then◌else◌};
+ghost use Rattle.std.specs.Prelude.{◌≡◌, ◌≤◌, ◌<◌, ◌+◌, ◌-◌, ◌++◌, ◌||◌, [], Ok, ℕ, Bool, List};
+ghost use Rattle.std.specs.Prelude.{true, false, nat_lt, min, length, drop, take, is_err, IfOk};
+ghost use Rattle.std.specs.Prelude.{OnOk, OnErr, IsErrOf, IsTrue, if◌then◌else◌};
 ghost use Rattle.std.specs.List.{position_or_len};
 ghost use Rattle.site_disk.specs.Causes.{Rose};
 ghost use Rattle.session_desk.specs.Input.{is_line_feed};
-ghost use Rattle.session_desk.specs.Lines.{fresh, IsHeld, HasSource, ends_in_return, raw_line, Nexts, SpendsBy};
+ghost use Rattle.session_desk.specs.Lines.{fresh, IsHeld, HasSource, ends_in_return, raw_line};
+ghost use Rattle.session_desk.specs.Lines.{Nexts, SpendsBy};
 ghost use Rattle.session_desk.specs.Filling.{has_line, given, filled, FillsBy, GivesBy, IsLineOf};
 
 use crate::reading::{INPUT_LIMIT, ReadFault};
@@ -22,7 +25,8 @@ const PIECE: usize = 4096;
 /// What comes next in an input.
 #[derive(Drop)]
 pub enum SessionLine {
-    /// A line without its line feed and without one carriage return at its end, and whether that was there.
+    /// A line without its line feed and without one carriage return at its end, and whether that
+    /// was there.
     Whole { line: Bytes, cr: bool },
     /// A line of over 4,096 bytes before its line feed.
     Long,
@@ -50,7 +54,8 @@ impl Model for LineReader {
 
     ghost view = { λ r. reading (drop r.start r.buffer.items) r.room r.ended r.failed };
 
-    ghost invariant = { λ r. (r.start ≤ length r.buffer.items) × IsHeld (reading (drop r.start r.buffer.items) r.room r.ended r.failed) };
+    ghost invariant = { λ r. (r.start ≤ length r.buffer.items)
+        × IsHeld (reading (drop r.start r.buffer.items) r.room r.ended r.failed) };
 }
 
 /// How many bytes stand before the first line feed, or how many there are where there is none.
@@ -107,22 +112,27 @@ impl LineReader {
 
     /// The next line, or that there is none.
     ///
-    /// A reader that has answered a fault isn't asked again. `Source` comes only where the source failed
-    /// and no whole line is left of what it gave, `TooMuch` only where it gave a byte past 64 MiB and no
-    /// whole line is left of the bytes before it. Once the source has given its end it isn't asked again.
+    /// A reader that has answered a fault isn't asked again. `Source` comes only where the source
+    /// failed and no whole line is left of what it gave, `TooMuch` only where it gave a byte past
+    /// 64 MiB and no whole line is left of the bytes before it. Once the source has given its end
+    /// it isn't asked again.
     pub fn next<S: Source>(&mut self, source: &mut S) -> Result<SessionLine, ReadFault>
         requires { self.old.failed ≡ false }
         ensures later { S.faults source.old ≤ S.faults source.new }
-        ensures source { IsErrOf result ReadFault.Source → Rose (S.faults source.old) (S.faults source.new) }
+        ensures source { IsErrOf result ReadFault.Source
+            → Rose (S.faults source.old) (S.faults source.new) }
         ensures failed { self.new.failed ≡ is_err result }
         ensures held { IsHeld self.new }
         ensures ended { self.old.ended ≡ true → self.new.ended ≡ true }
         ensures no_source { self.old.ended ≡ true → ¬ (IsErrOf result ReadFault.Source) }
         ensures no_too_much { self.old.ended ≡ true → ¬ (IsErrOf result ReadFault.TooMuch) }
-        ensures told { IsTrue S.tells → HasSource self.old (S.left source.old) → Nexts result self.old (S.left source.old) self.new (S.left source.new) }
+        ensures told { IsTrue S.tells → HasSource self.old (S.left source.old)
+            → Nexts result self.old (S.left source.old) self.new (S.left source.new) }
         ensures spends { SpendsBy result self.old self.new }
-        ensures empty { self.old.ended ≡ true → self.old.pending ≡ [] → result ≡ Ok SessionLine.End }
-        ensures same_source { IsTrue S.tells → HasSource self.old (S.left source.old) → HasSource self.new (S.left source.new) }
+        ensures empty { self.old.ended ≡ true → self.old.pending ≡ [] → result
+            ≡ Ok SessionLine.End }
+        ensures same_source { IsTrue S.tells → HasSource self.old (S.left source.old)
+            → HasSource self.new (S.left source.new) }
     {
         let result = self.read_line(source);
         self.failed = result.is_err();
@@ -132,15 +142,19 @@ impl LineReader {
     /// Takes pieces until a line is there, and gives it. Of a long line it keeps nothing.
     fn read_line<S: Source>(&mut self, source: &mut S) -> Result<SessionLine, ReadFault>
         ensures later { S.faults source.old ≤ S.faults source.new }
-        ensures source { IsErrOf result ReadFault.Source → Rose (S.faults source.old) (S.faults source.new) }
+        ensures source { IsErrOf result ReadFault.Source
+            → Rose (S.faults source.old) (S.faults source.new) }
         ensures held { IsHeld self.new }
         ensures ended { self.old.ended ≡ true → self.new.ended ≡ true }
         ensures no_source { self.old.ended ≡ true → ¬ (IsErrOf result ReadFault.Source) }
         ensures no_too_much { self.old.ended ≡ true → ¬ (IsErrOf result ReadFault.TooMuch) }
-        ensures told { IsTrue S.tells → HasSource self.old (S.left source.old) → Nexts result self.old (S.left source.old) self.new (S.left source.new) }
+        ensures told { IsTrue S.tells → HasSource self.old (S.left source.old)
+            → Nexts result self.old (S.left source.old) self.new (S.left source.new) }
         ensures spends { SpendsBy result self.old self.new }
-        ensures empty { self.old.ended ≡ true → self.old.pending ≡ [] → result ≡ Ok SessionLine.End }
-        ensures same_source { IsTrue S.tells → HasSource self.old (S.left source.old) → HasSource self.new (S.left source.new) }
+        ensures empty { self.old.ended ≡ true → self.old.pending ≡ [] → result
+            ≡ Ok SessionLine.End }
+        ensures same_source { IsTrue S.tells → HasSource self.old (S.left source.old)
+            → HasSource self.new (S.left source.new) }
     {
         let mut long = false;
         'pieces: while !self.has_line() {
@@ -195,7 +209,8 @@ impl LineReader {
     fn skip_long(&mut self) -> bool
         requires { length self.old.pending ≤ self.old.room }
         ensures long { result ≡ nat_lt 4096 (length self.old.pending) }
-        ensures given { self.new ≡ (if result then given (length self.old.pending) self.old else self.old) }
+        ensures given { self.new
+            ≡ (if result then given (length self.old.pending) self.old else self.old) }
     {
         let count = self.pending().len();
         let long = count > LINE_LIMIT;
@@ -222,12 +237,16 @@ impl LineReader {
         requires going { self.old.ended ≡ false }
         requires few { length self.old.pending ≤ self.old.room }
         ensures later { S.faults source.old ≤ S.faults source.new }
-        ensures source { IsErrOf result ReadFault.Source → Rose (S.faults source.old) (S.faults source.new) }
+        ensures source { IsErrOf result ReadFault.Source
+            → Rose (S.faults source.old) (S.faults source.new) }
         ensures held { IsHeld self.new }
         ensures room { self.new.room ≡ self.old.room }
-        ensures more { OnOk result (length self.old.pending + (if self.new.ended then 0 else 1) ≤ length self.new.pending) }
+        ensures more { OnOk result
+            (length self.old.pending + (if self.new.ended then 0 else 1)
+            ≤ length self.new.pending) }
         ensures failed { OnErr result (self.new.ended ≡ false) }
-        ensures told { IsTrue S.tells → FillsBy result self.old (S.left source.old) self.new (S.left source.new) }
+        ensures told { IsTrue S.tells
+            → FillsBy result self.old (S.left source.old) self.new (S.left source.new) }
     {
         let mut piece = [0u8; PIECE];
         let most = (self.room + 1 - self.pending().len()).min(PIECE);

@@ -1,12 +1,14 @@
 //! The word `once`.
 
-ghost use Rattle.std.specs.Prelude.{◌≡◌, ◌≤◌, ◌+◌, ◌++◌, ℕ, List, [], take, false, IsTrue, IfOk, OnOk, Ok, ◌⊎◌, length};
+ghost use Rattle.std.specs.Prelude.{◌≡◌, ◌≤◌, ◌+◌, ◌++◌, ℕ, List, [], take, false, IsTrue, IfOk};
+ghost use Rattle.std.specs.Prelude.{Ok, ◌⊎◌, length};
 ghost use Rattle.std.specs.FinMap as map;
 ghost use Rattle.vec_record.specs.Distance.{distance_of};
 ghost use Rattle.plain_dbscan.specs.Marks.{density, marks_of};
 ghost use Rattle.session_desk.specs.Words.{setting};
 ghost use Rattle.session_desk.specs.Input.{rows_of};
-ghost use Rattle.session_desk.specs.Answers.{IsDue, due, refusal_text as text_of_refusal, report_on, answer_to};
+ghost use Rattle.session_desk.specs.Answers.{IsDue, due, refusal_text as text_of_refusal};
+ghost use Rattle.session_desk.specs.Answers.{report_on, answer_under};
 ghost use Rattle.site_disk.specs.Causes.{Rose};
 ghost use Rattle.site_disk.specs.State.{Safe};
 ghost use Rattle.session_desk.specs.Moments.{IsSaying, LeavesAlone};
@@ -34,7 +36,8 @@ pub struct Answer {
 
 /// The refusal of an input.
 fn refuse(alloc: Global, refusal: Refusal) -> Result<Answer, AllocError>
-    ensures { IfOk result (λ a. IsDue a.status a.text (due Status.Refused (text_of_refusal refusal))) }
+    ensures { IfOk result (λ a. IsDue a.status a.text
+        (due Status.Refused (text_of_refusal refusal))) }
 {
     let mut text = Bytes::new(alloc);
     refusal_line(refusal.number(), refusal.place(), &mut text)?;
@@ -53,7 +56,9 @@ fn report<L: Ledger>(
 ) -> Result<Answer, AllocError>
     requires cap { params.now.cap ≡ 200000 }
     requires few { length input.now ≤ INPUT_LIMIT }
-    ensures due { IfOk result (λ a. IsDue a.status a.text (report_on (setting params.now.metric params.now.dim params.now.eps params.now.minpts) (rows_of params.now.metric params.now.dim input.now))) }
+    ensures due { IfOk result (λ a. IsDue a.status a.text
+        (report_on (setting params.now.metric params.now.dim params.now.eps params.now.minpts)
+        (rows_of params.now.metric params.now.dim input.now))) }
     ensures status { IfOk result (λ a. (a.status ≡ Status.Fine) ⊎ (a.status ≡ Status.Refused)) }
 {
     match read_records(alloc, params, input) {
@@ -70,7 +75,9 @@ fn find_marks<L: Ledger>(
     records: &Records,
     steps: &mut Steps<L>,
 ) -> Result<Marks, AllocError>
-    ensures { IfOk result (λ m. m ≡ marks_of (density (distance_of params.now.metric) params.now.eps params.now.minpts) (map.entries records.now.vectors)) }
+    ensures { IfOk result (λ m. m
+        ≡ marks_of (density (distance_of params.now.metric) params.now.eps params.now.minpts)
+        (map.entries records.now.vectors)) }
 {
     match params.metric {
         MetricKind::L1 => {
@@ -92,7 +99,9 @@ fn report_records<L: Ledger>(
     records: &Records,
     steps: &mut Steps<L>,
 ) -> Result<Answer, AllocError>
-    ensures { IfOk result (λ a. IsDue a.status a.text (report_on (setting params.now.metric params.now.dim params.now.eps params.now.minpts) (Ok records.now.vectors))) }
+    ensures { IfOk result (λ a. IsDue a.status a.text
+        (report_on (setting params.now.metric params.now.dim params.now.eps params.now.minpts)
+        (Ok records.now.vectors))) }
 {
     let marks = find_marks(alloc, params, records, steps)?;
     let mut text = Bytes::new(alloc);
@@ -112,18 +121,30 @@ pub fn run_once<S: Source, T: Site, L: Ledger>(
     steps: &mut Steps<L>,
 ) -> Status
     requires cap { params.now.cap ≡ 200000 }
-    ensures status { IsTrue S.tells → is_fault result ≡ false → result ≡ (answer_to (setting params.now.metric params.now.dim params.now.eps params.now.minpts) (S.left source.old)).status }
-    ensures text { IsTrue S.tells → IsTrue T.tells → is_fault result ≡ false → (T.state site.new).said ≡ (T.state site.old).said ++ (answer_to (setting params.now.metric params.now.dim params.now.eps params.now.minpts) (S.left source.old)).text }
-    ensures prefix { IsTrue S.tells → IsTrue T.tells → (n : ℕ) × ((T.state site.new).said ≡ (T.state site.old).said ++ take n (answer_to (setting params.now.metric params.now.dim params.now.eps params.now.minpts) (S.left source.old)).text) }
-    ensures moments { IsTrue S.tells → IsTrue T.tells → Safe (T.state site.old) (T.state site.new) (IsSaying (T.state site.old) (answer_to (setting params.now.metric params.now.dim params.now.eps params.now.minpts) (S.left source.old)).text) }
+    ensures status { IsTrue S.tells → is_fault result ≡ false → result
+        ≡ (answer_under params.now (S.left source.old)).status }
+    ensures text { IsTrue S.tells → IsTrue T.tells → is_fault result ≡ false
+        → (T.state site.new).said
+        ≡ (T.state site.old).said ++ (answer_under params.now (S.left source.old)).text }
+    ensures prefix { IsTrue S.tells → IsTrue T.tells → (n : ℕ)
+        × ((T.state site.new).said
+        ≡ (T.state site.old).said ++ take n (answer_under params.now (S.left source.old)).text) }
+    ensures moments { IsTrue S.tells → IsTrue T.tells
+        → Safe (T.state site.old) (T.state site.new)
+        (IsSaying (T.state site.old) (answer_under params.now (S.left source.old)).text) }
     ensures alone { IsTrue T.tells → LeavesAlone (T.state site.old) (T.state site.new) }
     ensures known { result ≡ Status.Words → ⊥ }
     ensures site { result ≡ Status.SiteFault → Rose (T.faults site.old) (T.faults site.new) }
-    ensures source { result ≡ Status.SourceFault → Rose (S.faults source.old) (S.faults source.new) }
-    ensures quiet { IsTrue T.tells → (result ≡ Status.SourceFault) ⊎ (result ≡ Status.Memory) → (T.state site.new).said ≡ (T.state site.old).said }
-    ensures begins { IsTrue T.tells → (more : List ℕ) × ((T.state site.new).said ≡ (T.state site.old).said ++ more) }
-    ensures taken { IsTrue S.tells → IsTaken (INPUT_LIMIT + 1) (S.left source.old) (S.left source.new) }
-    ensures ended { IsTrue S.tells → (result ≡ Status.Fine) ⊎ (result ≡ Status.Refused) → S.left source.new ≡ [] }
+    ensures source { result ≡ Status.SourceFault
+        → Rose (S.faults source.old) (S.faults source.new) }
+    ensures quiet { IsTrue T.tells → (result ≡ Status.SourceFault) ⊎ (result ≡ Status.Memory)
+        → (T.state site.new).said ≡ (T.state site.old).said }
+    ensures begins { IsTrue T.tells → (more : List ℕ)
+        × ((T.state site.new).said ≡ (T.state site.old).said ++ more) }
+    ensures taken { IsTrue S.tells
+        → IsTaken (INPUT_LIMIT + 1) (S.left source.old) (S.left source.new) }
+    ensures ended { IsTrue S.tells → (result ≡ Status.Fine) ⊎ (result ≡ Status.Refused)
+        → S.left source.new ≡ [] }
     ensures source_later { S.faults source.old ≤ S.faults source.new }
     ensures site_later { T.faults site.old ≤ T.faults site.new }
 {

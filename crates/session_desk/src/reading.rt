@@ -1,6 +1,7 @@
 //! The whole input of a source, within the limit.
 
-ghost use Rattle.std.specs.Prelude.{◌≡◌, ◌≤◌, ◌<◌, ◌+◌, ◌++◌, [], ℕ, List, IsTrue, OnOk, IfOk, IsErrOf, length, vec_len};
+ghost use Rattle.std.specs.Prelude.{◌≡◌, ◌≤◌, ◌<◌, ◌+◌, ◌++◌, [], ℕ, List, IsTrue, OnOk, IfOk};
+ghost use Rattle.std.specs.Prelude.{IsErrOf, length, vec_len};
 ghost use Rattle.site_disk.specs.Causes.{Rose};
 ghost use Rattle.session_desk.specs.Reading.{IsTaken};
 
@@ -23,9 +24,12 @@ pub fn read_all<S: Source>(alloc: Global, source: &mut S) -> Result<Vec<u8>, Rea
     ensures whole { IsTrue S.tells → IfOk result (λ input. S.left source.old ≡ input.items) }
     ensures ended { IsTrue S.tells → OnOk result (S.left source.new ≡ []) }
     ensures few { IfOk result (λ input. length input.items ≤ INPUT_LIMIT) }
-    ensures too_much { IsTrue S.tells → IsErrOf result ReadFault.TooMuch → INPUT_LIMIT < length (S.left source.old) }
-    ensures taken { IsTrue S.tells → IsTaken (INPUT_LIMIT + 1) (S.left source.old) (S.left source.new) }
-    ensures failed { IsErrOf result ReadFault.Source → Rose (S.faults source.old) (S.faults source.new) }
+    ensures too_much { IsTrue S.tells → IsErrOf result ReadFault.TooMuch → INPUT_LIMIT
+        < length (S.left source.old) }
+    ensures taken { IsTrue S.tells
+        → IsTaken (INPUT_LIMIT + 1) (S.left source.old) (S.left source.new) }
+    ensures failed { IsErrOf result ReadFault.Source
+        → Rose (S.faults source.old) (S.faults source.new) }
     ensures later { S.faults source.old ≤ S.faults source.new }
 {
     let mut input = Vec::new(alloc);

@@ -1,11 +1,14 @@
 //! What an input asks for next.
 
-ghost use Rattle.std.specs.Prelude.{◌≡◌, ◌≤◌, ◌<◌, ℕ, List, [], ◌∷◌, ◌++◌, length, true, false, IsTrue, IsErrOf, IfOk, IsSome, OnOk, Ok, Some, codes};
+ghost use Rattle.std.specs.Prelude.{◌≡◌, ◌≤◌, ◌<◌, ℕ, List, [], ◌∷◌, ◌++◌, length, true, false};
+ghost use Rattle.std.specs.Prelude.{IsTrue, IsErrOf, IfOk, IsSome, OnOk, Ok, Some, codes};
 ghost use Rattle.std.specs.Str.{bytes_eq};
 ghost use Rattle.site_disk.specs.Causes.{Rose};
 ghost use Rattle.session_desk.specs.Lines.{HasSource, IsUnfinished, raw_line};
 ghost use Rattle.session_desk.specs.Asking.{Asks};
-ghost use Rattle.session_desk.specs.Passing.{word_of as word_said, short_line, OneWord, Words, HasLines, OneInBody, Bodies, HasRoom, KeepsRoom, ShrinksBy, ShrinksOver, ShrinksOverAny};
+ghost use Rattle.session_desk.specs.Passing.{word_of as word_said, short_line, OneWord, Words};
+ghost use Rattle.session_desk.specs.Passing.{HasLines, OneInBody, Bodies, HasRoom, KeepsRoom};
+ghost use Rattle.session_desk.specs.Passing.{ShrinksBy, ShrinksOver, ShrinksOverAny};
 
 use crate::lines::{LineReader, SessionLine};
 use crate::reading::ReadFault;
@@ -61,8 +64,8 @@ struct Body {
     is_long: bool,
 }
 
-/// Reads the next request, or None where the input has ended. After a fault of the source, more bytes than
-/// may count, or want of memory nothing more is read.
+/// Reads the next request, or None where the input has ended. After a fault of the source, more
+/// bytes than may count, or want of memory nothing more is read.
 pub(crate) fn next_request<S: Source>(
     alloc: Global,
     reader: &mut LineReader,
@@ -71,15 +74,20 @@ pub(crate) fn next_request<S: Source>(
     requires { reader.old.failed ≡ false }
 
     // What is answered, by the bytes that the reader held or that were left.
-    ensures told { IsTrue S.tells → HasSource reader.old (S.left source.old) → Asks result reader.old (S.left source.old) reader.new (S.left source.new) }
-    ensures taken { IsTrue S.tells → HasSource reader.old (S.left source.old) → IsUnfinished reader.old (S.left source.old) (S.left source.new) }
-    ensures same_source { IsTrue S.tells → HasSource reader.old (S.left source.old) → HasSource reader.new (S.left source.new) }
+    ensures told { IsTrue S.tells → HasSource reader.old (S.left source.old)
+        → Asks result reader.old (S.left source.old) reader.new (S.left source.new) }
+    ensures taken { IsTrue S.tells → HasSource reader.old (S.left source.old)
+        → IsUnfinished reader.old (S.left source.old) (S.left source.new) }
+    ensures same_source { IsTrue S.tells → HasSource reader.old (S.left source.old)
+        → HasSource reader.new (S.left source.new) }
 
     // What holds over every source.
-    ensures few { (body : List ℕ) → result ≡ Ok (Some (Asked.Batch body)) → length body ≤ reader.old.room }
+    ensures few { (body : List ℕ) → result ≡ Ok (Some (Asked.Batch body)) → length body
+        ≤ reader.old.room }
     ensures shrinks { IfOk result (λ asked. IsSome asked → reader.new.room < reader.old.room) }
     ensures whole { OnOk result (reader.new.failed ≡ false) }
-    ensures source { IsErrOf result ReadFault.Source → Rose (S.faults source.old) (S.faults source.new) }
+    ensures source { IsErrOf result ReadFault.Source
+        → Rose (S.faults source.old) (S.faults source.new) }
     ensures later { S.faults source.old ≤ S.faults source.new }
     ensures ended { reader.old.ended ≡ true → reader.new.ended ≡ true }
 {
@@ -93,12 +101,16 @@ pub(crate) fn next_request<S: Source>(
 /// Reads lines outside of a body up to one that isn't empty.
 fn next_word<S: Source>(reader: &mut LineReader, source: &mut S) -> Result<Word, ReadFault>
     requires { reader.old.failed ≡ false }
-    ensures told { IsTrue S.tells → HasSource reader.old (S.left source.old) → Words result reader.old (S.left source.old) reader.new (S.left source.new) }
-    ensures taken { IsTrue S.tells → HasSource reader.old (S.left source.old) → IsUnfinished reader.old (S.left source.old) (S.left source.new) }
-    ensures same_source { IsTrue S.tells → HasSource reader.old (S.left source.old) → HasSource reader.new (S.left source.new) }
+    ensures told { IsTrue S.tells → HasSource reader.old (S.left source.old)
+        → Words result reader.old (S.left source.old) reader.new (S.left source.new) }
+    ensures taken { IsTrue S.tells → HasSource reader.old (S.left source.old)
+        → IsUnfinished reader.old (S.left source.old) (S.left source.new) }
+    ensures same_source { IsTrue S.tells → HasSource reader.old (S.left source.old)
+        → HasSource reader.new (S.left source.new) }
     ensures shrinks { IfOk result (λ w. ShrinksOver w reader.old reader.new) }
     ensures whole { OnOk result (reader.new.failed ≡ false) }
-    ensures source { IsErrOf result ReadFault.Source → Rose (S.faults source.old) (S.faults source.new) }
+    ensures source { IsErrOf result ReadFault.Source
+        → Rose (S.faults source.old) (S.faults source.new) }
     ensures later { S.faults source.old ≤ S.faults source.new }
     ensures ended { reader.old.ended ≡ true → reader.new.ended ≡ true }
 {
@@ -112,12 +124,16 @@ fn next_word<S: Source>(reader: &mut LineReader, source: &mut S) -> Result<Word,
 /// Reads one line outside of a body: what it says, or None where it is empty.
 fn read_word<S: Source>(reader: &mut LineReader, source: &mut S) -> Result<Option<Word>, ReadFault>
     requires { reader.old.failed ≡ false }
-    ensures told { IsTrue S.tells → HasSource reader.old (S.left source.old) → OneWord result reader.old (S.left source.old) reader.new (S.left source.new) }
-    ensures taken { IsTrue S.tells → HasSource reader.old (S.left source.old) → IsUnfinished reader.old (S.left source.old) (S.left source.new) }
-    ensures same_source { IsTrue S.tells → HasSource reader.old (S.left source.old) → HasSource reader.new (S.left source.new) }
+    ensures told { IsTrue S.tells → HasSource reader.old (S.left source.old)
+        → OneWord result reader.old (S.left source.old) reader.new (S.left source.new) }
+    ensures taken { IsTrue S.tells → HasSource reader.old (S.left source.old)
+        → IsUnfinished reader.old (S.left source.old) (S.left source.new) }
+    ensures same_source { IsTrue S.tells → HasSource reader.old (S.left source.old)
+        → HasSource reader.new (S.left source.new) }
     ensures shrinks { IfOk result (λ w. ShrinksOverAny w reader.old reader.new) }
     ensures whole { OnOk result (reader.new.failed ≡ false) }
-    ensures source { IsErrOf result ReadFault.Source → Rose (S.faults source.old) (S.faults source.new) }
+    ensures source { IsErrOf result ReadFault.Source
+        → Rose (S.faults source.old) (S.faults source.new) }
     ensures later { S.faults source.old ≤ S.faults source.new }
     ensures ended { reader.old.ended ≡ true → reader.new.ended ≡ true }
 {
@@ -159,13 +175,17 @@ fn read_body<S: Source>(
     source: &mut S,
 ) -> Result<Asked, ReadFault>
     requires { reader.old.failed ≡ false }
-    ensures told { IsTrue S.tells → HasSource reader.old (S.left source.old) → Bodies result reader.old (S.left source.old) reader.new (S.left source.new) }
-    ensures taken { IsTrue S.tells → HasSource reader.old (S.left source.old) → IsUnfinished reader.old (S.left source.old) (S.left source.new) }
-    ensures same_source { IsTrue S.tells → HasSource reader.old (S.left source.old) → HasSource reader.new (S.left source.new) }
+    ensures told { IsTrue S.tells → HasSource reader.old (S.left source.old)
+        → Bodies result reader.old (S.left source.old) reader.new (S.left source.new) }
+    ensures taken { IsTrue S.tells → HasSource reader.old (S.left source.old)
+        → IsUnfinished reader.old (S.left source.old) (S.left source.new) }
+    ensures same_source { IsTrue S.tells → HasSource reader.old (S.left source.old)
+        → HasSource reader.new (S.left source.new) }
     ensures few { (body : List ℕ) → result ≡ Ok (Asked.Batch body) → length body ≤ reader.old.room }
     ensures shrinks { OnOk result (reader.new.room ≤ reader.old.room) }
     ensures whole { OnOk result (reader.new.failed ≡ false) }
-    ensures source { IsErrOf result ReadFault.Source → Rose (S.faults source.old) (S.faults source.new) }
+    ensures source { IsErrOf result ReadFault.Source
+        → Rose (S.faults source.old) (S.faults source.new) }
     ensures later { S.faults source.old ≤ S.faults source.new }
     ensures ended { reader.old.ended ≡ true → reader.new.ended ≡ true }
 {
@@ -190,13 +210,20 @@ fn read_line<S: Source>(
     source: &mut S,
 ) -> Result<BodyLine, ReadFault>
     requires { reader.old.failed ≡ false }
-    ensures told { IsTrue S.tells → HasSource reader.old (S.left source.old) → (lines : List (List ℕ)) → HasLines body.old lines → OneInBody result lines body.new reader.old (S.left source.old) reader.new (S.left source.new) }
-    ensures taken { IsTrue S.tells → HasSource reader.old (S.left source.old) → IsUnfinished reader.old (S.left source.old) (S.left source.new) }
-    ensures same_source { IsTrue S.tells → HasSource reader.old (S.left source.old) → HasSource reader.new (S.left source.new) }
-    ensures room { (most : ℕ) → HasRoom most body.old reader.old → KeepsRoom result most body.new reader.new }
+    ensures told { IsTrue S.tells → HasSource reader.old (S.left source.old)
+        → (lines : List (List ℕ)) → HasLines body.old lines
+        → OneInBody result lines body.new reader.old (S.left source.old) reader.new
+        (S.left source.new) }
+    ensures taken { IsTrue S.tells → HasSource reader.old (S.left source.old)
+        → IsUnfinished reader.old (S.left source.old) (S.left source.new) }
+    ensures same_source { IsTrue S.tells → HasSource reader.old (S.left source.old)
+        → HasSource reader.new (S.left source.new) }
+    ensures room { (most : ℕ) → HasRoom most body.old reader.old
+        → KeepsRoom result most body.new reader.new }
     ensures shrinks { ShrinksBy result reader.old reader.new }
     ensures whole { OnOk result (reader.new.failed ≡ false) }
-    ensures source { IsErrOf result ReadFault.Source → Rose (S.faults source.old) (S.faults source.new) }
+    ensures source { IsErrOf result ReadFault.Source
+        → Rose (S.faults source.old) (S.faults source.new) }
     ensures later { S.faults source.old ≤ S.faults source.new }
     ensures ended { reader.old.ended ≡ true → reader.new.ended ≡ true }
 {
@@ -218,7 +245,8 @@ fn read_line<S: Source>(
 fn take_line(body: &mut Body, line: &[u8], cr: bool) -> Result<bool, AllocError>
     ensures ends { IfOk result (λ ends. ends ≡ bytes_eq line.now (codes "end")) }
     ensures long { body.new.is_long ≡ body.old.is_long }
-    ensures kept { result ≡ Ok false → body.old.is_long ≡ false → body.new.bytes ≡ body.old.bytes ++ (raw_line line.now cr ++ 10 ∷ []) }
+    ensures kept { result ≡ Ok false → body.old.is_long ≡ false → body.new.bytes
+        ≡ body.old.bytes ++ (raw_line line.now cr ++ 10 ∷ []) }
     ensures same { result ≡ Ok true → body.new.bytes ≡ body.old.bytes }
     ensures unkept { result ≡ Ok false → body.old.is_long ≡ true → body.new.bytes ≡ body.old.bytes }
 {

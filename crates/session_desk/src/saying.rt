@@ -13,9 +13,12 @@ use site_disk::Site;
 pub fn say<T: Site>(site: &mut T, status: Status, text: &[u8]) -> Status
     requires { is_fault status ≡ false }
     ensures status { (result ≡ status) ⊎ (result ≡ Status.SiteFault) }
-    ensures said { IsTrue T.tells → is_fault result ≡ false → (T.state site.new).said ≡ (T.state site.old).said ++ text.now }
-    ensures prefix { IsTrue T.tells → (n : ℕ) × ((T.state site.new).said ≡ (T.state site.old).said ++ take n text.now) }
-    ensures moments { IsTrue T.tells → Safe (T.state site.old) (T.state site.new) (IsSaying (T.state site.old) text.now) }
+    ensures said { IsTrue T.tells → is_fault result ≡ false → (T.state site.new).said
+        ≡ (T.state site.old).said ++ text.now }
+    ensures prefix { IsTrue T.tells → (n : ℕ)
+        × ((T.state site.new).said ≡ (T.state site.old).said ++ take n text.now) }
+    ensures moments { IsTrue T.tells
+        → Safe (T.state site.old) (T.state site.new) (IsSaying (T.state site.old) text.now) }
     ensures alone { IsTrue T.tells → LeavesAlone (T.state site.old) (T.state site.new) }
     ensures fault { result ≡ Status.SiteFault → Rose (T.faults site.old) (T.faults site.new) }
     ensures later { T.faults site.old ≤ T.faults site.new }

@@ -1,5 +1,6 @@
 //! The word `serve`.
-ghost use Rattle.std.specs.Prelude.{◌≡◌, ◌≤◌, ◌<◌, ◌+◌, ◌++◌, ◌⊎◌, [], ℕ, List, Ok, None, true, false, IsTrue, IfOk, IfErr, MatchResult};
+ghost use Rattle.std.specs.Prelude.{◌≡◌, ◌≤◌, ◌<◌, ◌+◌, ◌++◌, ◌⊎◌, [], ℕ, List, Ok, None, true};
+ghost use Rattle.std.specs.Prelude.{false, IsTrue, IfOk, IfErr, MatchResult};
 ghost use Rattle.site_disk.specs.Causes.{Rose};
 ghost use Rattle.site_disk.specs.State.{Safe, Joins};
 ghost use Rattle.page_gate.specs.Promises.{Holds, HasFault};
@@ -10,7 +11,8 @@ ghost use Rattle.session_desk.specs.Statuses.{is_fault};
 ghost use Rattle.session_desk.specs.Reading.{IsTaken};
 ghost use Rattle.session_desk.specs.Headline.{Serves, IsComplete, LeavesUnopened};
 ghost use Rattle.session_desk.specs.Talks.{IsServing, IsTalk, Concludes, IsCutOff, IsKept, IsEven};
-ghost use Rattle.session_desk.specs.Opened.{state_of, is_outside, fault_of as fault_said, refusal_course, IsLoaded, Loads};
+ghost use Rattle.session_desk.specs.Opened.{state_of, is_outside, fault_of as fault_said};
+ghost use Rattle.session_desk.specs.Opened.{refusal_course, IsLoaded, Loads};
 
 use crate::converse::converse;
 use crate::reading::INPUT_LIMIT;
@@ -40,7 +42,8 @@ fn load<L: Ledger>(
     pages: Pages,
     steps: &mut Steps<L>,
 ) -> Result<AnyWarehouse, StoreFault>
-    ensures loaded { MatchResult result (λ w. IsLoaded pages.list (state_of w)) (λ e. Fails e (load_of pages.list)) }
+    ensures loaded { MatchResult result (λ w. IsLoaded pages.list (state_of w))
+        (λ e. Fails e (load_of pages.list)) }
 {
     match read_params(&pages)?.metric {
         MetricKind::L1 => Ok(AnyWarehouse::L1(Warehouse::load(alloc, pages, steps)?)),
@@ -80,10 +83,14 @@ fn begin<T: Site, L: Ledger>(
 /// Says where the store is damaged.
 fn say_damage<T: Site>(alloc: Global, site: &mut T, page: u32, offset: u32) -> Status
     ensures status { is_fault result ≡ false → result ≡ Status.Broken }
-    ensures said { IsTrue T.tells → is_fault result ≡ false → (T.state site.new).said ≡ (T.state site.old).said ++ (refusal_course (OpenFault.Damaged page offset)).ending }
-    ensures moments { IsTrue T.tells → Safe (T.state site.old) (T.state site.new) (IsSaying (T.state site.old) (refusal_course (OpenFault.Damaged page offset)).ending) }
+    ensures said { IsTrue T.tells → is_fault result ≡ false → (T.state site.new).said
+        ≡ (T.state site.old).said ++ (refusal_course (OpenFault.Damaged page offset)).ending }
+    ensures moments { IsTrue T.tells
+        → Safe (T.state site.old) (T.state site.new)
+        (IsSaying (T.state site.old) (refusal_course (OpenFault.Damaged page offset)).ending) }
     ensures quiet { result ≡ Status.Memory → site.new ≡ site.old }
-    ensures answers { (result ≡ Status.Broken) ⊎ ((result ≡ Status.SiteFault) ⊎ (result ≡ Status.Memory)) }
+    ensures answers { (result ≡ Status.Broken)
+        ⊎ ((result ≡ Status.SiteFault) ⊎ (result ≡ Status.Memory)) }
     ensures fault { result ≡ Status.SiteFault → Rose (T.faults site.old) (T.faults site.new) }
     ensures later { T.faults site.old ≤ T.faults site.new }
 {
@@ -95,13 +102,19 @@ fn say_damage<T: Site>(alloc: Global, site: &mut T, page: u32, offset: u32) -> S
 
 /// Says why the store doesn't open.
 fn say_fault<T: Site>(alloc: Global, site: &mut T, fault: OpenFault) -> Status
-    ensures status { is_fault result ≡ false → (is_outside fault ≡ false) × (result ≡ (refusal_course fault).status) }
-    ensures said { IsTrue T.tells → is_fault result ≡ false → (T.state site.new).said ≡ (T.state site.old).said ++ (refusal_course fault).ending }
-    ensures moments { IsTrue T.tells → Safe (T.state site.old) (T.state site.new) (IsSaying (T.state site.old) (refusal_course fault).ending) }
+    ensures status { is_fault result ≡ false → (is_outside fault ≡ false)
+        × (result ≡ (refusal_course fault).status) }
+    ensures said { IsTrue T.tells → is_fault result ≡ false → (T.state site.new).said
+        ≡ (T.state site.old).said ++ (refusal_course fault).ending }
+    ensures moments { IsTrue T.tells
+        → Safe (T.state site.old) (T.state site.new)
+        (IsSaying (T.state site.old) (refusal_course fault).ending) }
     ensures still { is_outside fault ≡ true → site.new ≡ site.old }
     ensures quiet { result ≡ Status.Memory → site.new ≡ site.old }
-    ensures answers { (result ≡ Status.Blank) ⊎ ((result ≡ Status.Broken) ⊎ ((result ≡ Status.SiteFault) ⊎ (result ≡ Status.Memory))) }
-    ensures fault { result ≡ Status.SiteFault → (fault ≡ OpenFault.SiteFault) ⊎ Rose (T.faults site.old) (T.faults site.new) }
+    ensures answers { (result ≡ Status.Blank)
+        ⊎ ((result ≡ Status.Broken) ⊎ ((result ≡ Status.SiteFault) ⊎ (result ≡ Status.Memory))) }
+    ensures fault { result ≡ Status.SiteFault → (fault ≡ OpenFault.SiteFault)
+        ⊎ Rose (T.faults site.old) (T.faults site.new) }
     ensures later { T.faults site.old ≤ T.faults site.new }
 {
     match fault {
@@ -123,18 +136,32 @@ fn converse_by_metric<S: Source, T: Site, L: Ledger>(
 ) -> Status
     requires serving { IsServing (state_of warehouse) }
     requires ready { IsTrue T.tells → Holds (state_of warehouse).pages (T.state site.old) }
-    ensures answers { IsTrue S.tells → IsTrue T.tells → is_fault result ≡ false → Concludes (state_of warehouse) (S.left source.old) result (T.state site.old) (T.state site.new) }
-    ensures whole { IsTrue S.tells → IsTrue T.tells → result ≡ Status.SourceFault → IsCutOff (state_of warehouse) (S.left source.old) (S.left source.new) (T.state site.old) (T.state site.new) }
-    ensures moments { IsTrue S.tells → IsTrue T.tells → Safe (T.state site.old) (T.state site.new) (IsTalk (state_of warehouse) (S.left source.old) (T.state site.old)) }
-    ensures end { IsTrue S.tells → IsTrue T.tells → is_fault result ≡ false → IsKept (state_of warehouse) (S.left source.old) (T.state site.new) }
-    ensures settled { IsTrue S.tells → IsTrue T.tells → (result ≡ Status.SourceFault) ⊎ (result ≡ Status.Memory) → IsEven (state_of warehouse) (S.left source.old) (T.state site.old) (T.state site.new) }
-    ensures status { (result ≡ Status.Fine) ⊎ (result ≡ Status.Refused) ⊎ (result ≡ Status.TooLong) ⊎ (is_fault result ≡ true) }
+    ensures answers { IsTrue S.tells → IsTrue T.tells → is_fault result ≡ false
+        → Concludes (state_of warehouse) (S.left source.old) result (T.state site.old)
+        (T.state site.new) }
+    ensures whole { IsTrue S.tells → IsTrue T.tells → result ≡ Status.SourceFault
+        → IsCutOff (state_of warehouse) (S.left source.old) (S.left source.new) (T.state site.old)
+        (T.state site.new) }
+    ensures moments { IsTrue S.tells → IsTrue T.tells
+        → Safe (T.state site.old) (T.state site.new)
+        (IsTalk (state_of warehouse) (S.left source.old) (T.state site.old)) }
+    ensures end { IsTrue S.tells → IsTrue T.tells → is_fault result ≡ false
+        → IsKept (state_of warehouse) (S.left source.old) (T.state site.new) }
+    ensures settled { IsTrue S.tells → IsTrue T.tells → (result ≡ Status.SourceFault)
+        ⊎ (result ≡ Status.Memory)
+        → IsEven (state_of warehouse) (S.left source.old) (T.state site.old) (T.state site.new) }
+    ensures status { (result ≡ Status.Fine) ⊎ (result ≡ Status.Refused) ⊎ (result ≡ Status.TooLong)
+        ⊎ (is_fault result ≡ true) }
     ensures site { result ≡ Status.SiteFault → Rose (T.faults site.old) (T.faults site.new) }
-    ensures source { result ≡ Status.SourceFault → Rose (S.faults source.old) (S.faults source.new) }
+    ensures source { result ≡ Status.SourceFault
+        → Rose (S.faults source.old) (S.faults source.new) }
     ensures joins { IsTrue T.tells → Joins (T.state site.old) (T.state site.new) }
-    ensures begins { IsTrue T.tells → (more : List ℕ) × ((T.state site.new).said ≡ (T.state site.old).said ++ more) }
-    ensures taken { IsTrue S.tells → IsTaken (INPUT_LIMIT + 1) (S.left source.old) (S.left source.new) }
-    ensures ended { IsTrue S.tells → (result ≡ Status.Fine) ⊎ (result ≡ Status.Refused) → S.left source.new ≡ [] }
+    ensures begins { IsTrue T.tells → (more : List ℕ)
+        × ((T.state site.new).said ≡ (T.state site.old).said ++ more) }
+    ensures taken { IsTrue S.tells
+        → IsTaken (INPUT_LIMIT + 1) (S.left source.old) (S.left source.new) }
+    ensures ended { IsTrue S.tells → (result ≡ Status.Fine) ⊎ (result ≡ Status.Refused)
+        → S.left source.new ≡ [] }
     ensures source_later { S.faults source.old ≤ S.faults source.new }
     ensures site_later { T.faults site.old ≤ T.faults site.new }
 {
@@ -159,14 +186,19 @@ pub fn serve<S: Source, T: Site, L: Ledger>(
         → (Rose (S.faults source.old) (S.faults source.new) → ⊥)
         → (Rose (T.faults site.old) (T.faults site.new) → ⊥)
         → IsComplete (S.left source.old) result (T.state site.old) }
-    ensures unopened { IsTrue T.tells → LeavesUnopened result (T.state site.old) (T.state site.new) }
+    ensures unopened { IsTrue T.tells
+        → LeavesUnopened result (T.state site.old) (T.state site.new) }
     ensures known { result ≡ Status.Words → ⊥ }
     ensures site { result ≡ Status.SiteFault → Rose (T.faults site.old) (T.faults site.new) }
-    ensures source { result ≡ Status.SourceFault → Rose (S.faults source.old) (S.faults source.new) }
+    ensures source { result ≡ Status.SourceFault
+        → Rose (S.faults source.old) (S.faults source.new) }
     ensures joins { IsTrue T.tells → Joins (T.state site.old) (T.state site.new) }
-    ensures begins { IsTrue T.tells → (more : List ℕ) × ((T.state site.new).said ≡ (T.state site.old).said ++ more) }
-    ensures taken { IsTrue S.tells → IsTaken (INPUT_LIMIT + 1) (S.left source.old) (S.left source.new) }
-    ensures ended { IsTrue S.tells → (result ≡ Status.Fine) ⊎ (result ≡ Status.Refused) → S.left source.new ≡ [] }
+    ensures begins { IsTrue T.tells → (more : List ℕ)
+        × ((T.state site.new).said ≡ (T.state site.old).said ++ more) }
+    ensures taken { IsTrue S.tells
+        → IsTaken (INPUT_LIMIT + 1) (S.left source.old) (S.left source.new) }
+    ensures ended { IsTrue S.tells → (result ≡ Status.Fine) ⊎ (result ≡ Status.Refused)
+        → S.left source.new ≡ [] }
     ensures source_later { S.faults source.old ≤ S.faults source.new }
     ensures site_later { T.faults site.old ≤ T.faults site.new }
 {

@@ -1,6 +1,7 @@
 //! The top call.
 
-ghost use Rattle.std.specs.Prelude.{◌≡◌, ◌≤◌, ◌+◌, ◌++◌, ◌⊎◌, [], ℕ, List, None, Some, false, IsTrue, map, string_bytes};
+ghost use Rattle.std.specs.Prelude.{◌≡◌, ◌≤◌, ◌+◌, ◌++◌, ◌⊎◌, [], ℕ, List, None, Some, false};
+ghost use Rattle.std.specs.Prelude.{IsTrue, map, string_bytes};
 ghost use Rattle.site_disk.specs.Causes.{Rose};
 ghost use Rattle.site_disk.specs.State.{Safe, Joins};
 ghost use Rattle.page_gate.specs.Gate.{is_blank};
@@ -31,8 +32,8 @@ const USAGE: &[u8] =
 /// Runs the program: the words after its name, the input, and the site that answers go to.
 ///
 /// The words are judged before anything is read; then the store, where they ask for one; then the
-/// length of the input, and its records. After a fault of the site or the source, or want of memory, the
-/// run has ended and nothing more is said.
+/// length of the input, and its records. After a fault of the site or the source, or want of
+/// memory, the run has ended and nothing more is said.
 pub fn run<S: Source, T: Site, L: Ledger>(
     alloc: Global,
     words: &[String],
@@ -40,8 +41,8 @@ pub fn run<S: Source, T: Site, L: Ledger>(
     site: &mut T,
     steps: &mut Steps<L>,
 ) -> Status
-    // `serve`, the headline: answers, crash and end. Completeness: where no count of faults rose, the status is
-    // the session's, or memory was wanting.
+    // `serve`, the headline: answers, crash and end. Completeness: where no count of faults rose,
+    // the status is the session's, or memory was wanting.
     ensures serves { IsTrue S.tells → IsTrue T.tells
         → command_of (map string_bytes words.now) ≡ Some Serve
         → Serves (S.left source.old) (S.left source.new) result
@@ -56,8 +57,8 @@ pub fn run<S: Source, T: Site, L: Ledger>(
     ensures ended { IsTrue S.tells → command_of (map string_bytes words.now) ≡ Some Serve
         → (result ≡ Status.Fine) ⊎ (result ≡ Status.Refused) → S.left source.new ≡ [] }
 
-    // `init`: the status and the text that are due, and at every moment an image of the start, a blank one, or the
-    // new store.
+    // `init`: the status and the text that are due, and at every moment an image of the start, a
+    // blank one, or the new store.
     ensures birth_status { (v : Values) → IsTrue T.tells
         → command_of (map string_bytes words.now) ≡ Some (Init v)
         → is_fault result ≡ false
@@ -65,7 +66,8 @@ pub fn run<S: Source, T: Site, L: Ledger>(
     ensures birth_text { (v : Values) → IsTrue T.tells
         → command_of (map string_bytes words.now) ≡ Some (Init v)
         → is_fault result ≡ false
-        → (T.state site.new).said ≡ (T.state site.old).said ++ (birth_due (is_blank (T.state site.old).content)).text }
+        → (T.state site.new).said
+        ≡ (T.state site.old).said ++ (birth_due (is_blank (T.state site.old).content)).text }
     ensures birth { (v : Values) → IsTrue T.tells
         → command_of (map string_bytes words.now) ≡ Some (Init v)
         → Safe (T.state site.old) (T.state site.new) (IsBirthMoment v (T.state site.old)) }
@@ -79,12 +81,13 @@ pub fn run<S: Source, T: Site, L: Ledger>(
         → (result ≡ Status.Fine) ⊎ (result ≡ Status.Exists)
         ⊎ (result ≡ Status.SiteFault) ⊎ (result ≡ Status.Memory) }
 
-    // `once` and refused words: the status and the text are those that are due to the words and the whole
-    // input, and the content and the images are left alone.
+    // `once` and refused words: the status and the text are those that are due to the words and the
+    // whole input, and the content and the images are left alone.
     ensures status { IsTrue S.tells
         → asks_store (command_of (map string_bytes words.now)) ≡ false
         → is_fault result ≡ false
-        → result ≡ (answer_of (setting_of (map string_bytes words.now)) (S.left source.old)).status }
+        → result
+        ≡ (answer_of (setting_of (map string_bytes words.now)) (S.left source.old)).status }
     ensures says { IsTrue S.tells → IsTrue T.tells
         → asks_store (command_of (map string_bytes words.now)) ≡ false
         → Says (answer_of (setting_of (map string_bytes words.now)) (S.left source.old)).text result
@@ -109,16 +112,18 @@ pub fn run<S: Source, T: Site, L: Ledger>(
     ensures unread { IsTrue S.tells → command_of (map string_bytes words.now) ≡ None
         → S.left source.new ≡ S.left source.old }
 
-    // For all words: moments join through the whole call, what is said comes behind what was said, and a fault
-    // has its cause.
+    // For all words: moments join through the whole call, what is said comes behind what was said,
+    // and a fault has its cause.
     ensures joins { IsTrue T.tells → Joins (T.state site.old) (T.state site.new) }
     ensures begins { IsTrue T.tells
         → (more : List ℕ) × ((T.state site.new).said ≡ (T.state site.old).said ++ more) }
     ensures site { result ≡ Status.SiteFault → Rose (T.faults site.old) (T.faults site.new) }
-    ensures source { result ≡ Status.SourceFault → Rose (S.faults source.old) (S.faults source.new) }
+    ensures source { result ≡ Status.SourceFault
+        → Rose (S.faults source.old) (S.faults source.new) }
 
     // What is taken of the source: at most one byte past the limit.
-    ensures taken { IsTrue S.tells → IsTaken (INPUT_LIMIT + 1) (S.left source.old) (S.left source.new) }
+    ensures taken { IsTrue S.tells
+        → IsTaken (INPUT_LIMIT + 1) (S.left source.old) (S.left source.new) }
     ensures source_later { S.faults source.old ≤ S.faults source.new }
     ensures site_later { T.faults site.old ≤ T.faults site.new }
 {

@@ -1,7 +1,9 @@
 //! The words of the command line.
 
 ghost use Rattle.std.specs.Prelude.{◌≡◌, map, string_bytes};
-ghost use Rattle.session_desk.specs.Words.{metric_named as named, number_in, checked, checked_values, setting_of, init_of, is_serve, command_of};
+ghost use Rattle.session_desk.specs.Words.{metric_named as named, number_in, checked};
+ghost use Rattle.session_desk.specs.Words.{checked_values, setting_of, init_of, is_serve};
+ghost use Rattle.session_desk.specs.Words.{command_of};
 ghost use Rattle.session_desk.specs.Settings.{IsSetting, IsInit, IsTask};
 
 use batch_text::number::number_within;
@@ -82,7 +84,8 @@ fn read_once(words: &[String]) -> Option<Params>
 
 /// The parameters that the words METRIC DIM EPS MINPTS CAP give a new store.
 fn read_store_params(metric: &str, dim: &str, eps: &str, minpts: &str, cap: &str) -> Option<Params>
-    ensures { IsInit result (checked_values (named metric.now) (number_in dim.now) (number_in eps.now) (number_in minpts.now) (number_in cap.now)) }
+    ensures { IsInit result (checked_values (named metric.now) (number_in dim.now)
+        (number_in eps.now) (number_in minpts.now) (number_in cap.now)) }
 {
     make_store_params(
         metric_named(metric),
@@ -93,7 +96,8 @@ fn read_store_params(metric: &str, dim: &str, eps: &str, minpts: &str, cap: &str
     )
 }
 
-/// The parameters that the words `init METRIC DIM EPS MINPTS CAP` give, or `None` for any other words.
+/// The parameters that the words `init METRIC DIM EPS MINPTS CAP` give, or `None` for any other
+/// words.
 fn read_init(words: &[String]) -> Option<Params>
     ensures { IsInit result (init_of (map string_bytes words.now)) }
 {
@@ -124,7 +128,8 @@ fn are_serve(words: &[String]) -> bool
 
 /// What the words ask for, or `None` for words of no known form.
 pub fn read_words(words: &[String]) -> Option<Task>
-    ensures { IsTask result (command_of (map string_bytes words.now)) (setting_of (map string_bytes words.now)) }
+    ensures { IsTask result (command_of (map string_bytes words.now))
+        (setting_of (map string_bytes words.now)) }
 {
     if are_serve(words) {
         return Some(Task::Serve);

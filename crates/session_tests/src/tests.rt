@@ -433,8 +433,9 @@ fn ends_unsaid(end: &Outcome) -> bool {
     failed && end.said.is_empty() && end.wants == 0
 }
 
-/// What the words and the input of a row say, in pieces of each size. They call the site once, to say it: where its
-/// second call is to fail, nothing fails, and where the first one is, nothing is said.
+/// What the words and the input of a row say, in pieces of each size. They call the site once, to
+/// say it: where its second call is to fail, nothing fails, and where the first one is, nothing is
+/// said.
 #[test]
 fn rows(rt: HostRuntime) -> Result<(), Fail> {
     for row in ROWS {
@@ -552,8 +553,8 @@ fn longest_inputs(rt: HostRuntime) -> Result<(), Fail> {
     Ok(())
 }
 
-/// A line of 4,096 bytes is judged as a record; one of a byte more is refused, before too many records
-/// are, and its CR counts.
+/// A line of 4,096 bytes is judged as a record; one of a byte more is refused, before too many
+/// records are, and its CR counts.
 #[test]
 fn longest_lines(rt: HostRuntime) -> Result<(), Fail> {
     for (letters, last, count, said) in [

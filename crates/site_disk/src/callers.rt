@@ -21,7 +21,9 @@ pub fn write_twice<T: Site>(
     requires second { next + length more.now ≤ 2 ^ 63 - 1 }
     requires settled { IsTrue T.tells → IsSettledState (T.state site.old) }
     ensures cause { HasCause (T.faults site.old) (T.faults site.new) result }
-    ensures told { IsTrue T.tells → WritesTwice at bytes.now next more.now line.now result (T.state site.old) (T.state site.new) }
+    ensures told { IsTrue T.tells
+        → WritesTwice at bytes.now next more.now line.now result (T.state site.old)
+        (T.state site.new) }
 {
     site.write_at(at, bytes)?;
     site.sync()?;
@@ -32,8 +34,10 @@ pub fn write_twice<T: Site>(
 /// Says a line some times, with a sync after each.
 pub fn say_often<T: Site>(site: &mut T, line: &[u8], times: usize) -> Result<(), Failed>
     ensures cause { HasCause (T.faults site.old) (T.faults site.new) result }
-    ensures told { IsTrue T.tells → Safe (T.state site.old) (T.state site.new) (IsCalm (T.state site.old)) }
-    ensures said { IsTrue T.tells → OnOk result ((T.state site.new).said ≡ (T.state site.old).said ++ lines times line.now) }
+    ensures told { IsTrue T.tells
+        → Safe (T.state site.old) (T.state site.new) (IsCalm (T.state site.old)) }
+    ensures said { IsTrue T.tells
+        → OnOk result ((T.state site.new).said ≡ (T.state site.old).said ++ lines times line.now) }
 {
     for _i in 0..times {
         site.say(line)?;

@@ -1,5 +1,6 @@
 //! The bytes of a file in memory.
-ghost use Rattle.std.specs.Prelude.{◌≡◌, ◌≤◌, ◌<◌, ◌+◌, ◌-◌, ◌++◌, ℕ, length, take, drop, get_or, OnOk, OnErr, IfOk};
+ghost use Rattle.std.specs.Prelude.{◌≡◌, ◌≤◌, ◌<◌, ◌+◌, ◌-◌, ◌++◌, ℕ, length, take, drop, get_or};
+ghost use Rattle.std.specs.Prelude.{OnOk, OnErr, IfOk};
 ghost use Rattle.vec_record.specs.Vectors.{AreBytes};
 ghost use Rattle.site_disk.specs.Disk.{put, zeros};
 
@@ -30,7 +31,8 @@ fn lay_over(file: &mut [u8], at: usize, bytes: &[u8])
 
 /// Makes a file at least this long, with zeros at its end.
 fn widen(file: &mut Vec<u8>, end: usize) -> Result<(), AllocError>
-    ensures ok { OnOk result (file.new.items ≡ file.old.items ++ zeros (end - length file.old.items)) }
+    ensures ok { OnOk result (file.new.items
+        ≡ file.old.items ++ zeros (end - length file.old.items)) }
     ensures err { OnErr result (file.new.items ≡ file.old.items) }
 {
     if file.len() < end {

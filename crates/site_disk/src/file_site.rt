@@ -24,8 +24,8 @@ pub enum SiteError {
     Locked,
 }
 
-/// The file, as far as the site has looked. Where it saw none, it opens none that comes to be later, since
-/// callers rest on what they were told.
+/// The file, as far as the site has looked. Where it saw none, it opens none that comes to be
+/// later, since callers rest on what they were told.
 #[derive(Drop)]
 enum Store {
     Unseen,
@@ -33,15 +33,17 @@ enum Store {
     Open(Handle),
 }
 
-/// The file `warehouse.idb` of the current folder, and standard output. It tells nothing of content.
+/// The file `warehouse.idb` of the current folder, and standard output. It tells nothing of
+/// content.
 ///
-/// The file is opened by the first call that asks for it, and not where standard output is closed. It
-/// stays locked against a second program until the site is dropped.
+/// The file is opened by the first call that asks for it, and not where standard output is closed.
+/// It stays locked against a second program until the site is dropped.
 #[derive(Drop)]
 pub struct FileSite {
     rt: HostRuntime,
     store: Store,
-    /// Whether the folder was synced since the file was opened, so that the file's name is kept too.
+    /// Whether the folder was synced since the file was opened, so that the file's name is kept
+    /// too.
     is_named: bool,
     faults: u64,
     last: Option<SiteError>,

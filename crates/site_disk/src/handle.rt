@@ -14,15 +14,16 @@ pub(crate) const MAX_LEN: u64 = 9_223_372_036_854_775_807;
 /// The descriptor of standard error, the last of the three.
 const STANDARD_ERROR: i32 = 2;
 
-/// An open file whose descriptor is none of 0, 1 and 2. So what is meant for a standard stream that was
-/// closed never reaches it, and nothing of it is read as input.
+/// An open file whose descriptor is none of 0, 1 and 2. So what is meant for a standard stream
+/// that was closed never reaches it, and nothing of it is read as input.
 #[derive(Drop)]
 pub(crate) struct Handle {
     file: File,
     ghost above: { pos 2 <ℤ file_raw_fd file },
 }
 
-/// Moves a file that has just been opened above the standard descriptors, where a closed one was free.
+/// Moves a file that has just been opened above the standard descriptors, where a closed one was
+/// free.
 fn moved_above(file: File) -> io::Result<Handle> {
     if file.as_raw_fd() > STANDARD_ERROR {
         return Ok(Handle { file });

@@ -1,4 +1,8 @@
-ghost use Rattle.std.specs.Prelude.{List, ◌≡◌, ◌≤◌, ◌<◌, ◌+◌, ◌-◌, ◌^◌, [], ◌∷◌, ◌++◌, ℕ, length, take, drop, reverse, get_or, true, vec_len, vec_capacity, OnOk, OnErr, IfOk, IsErr};
+//! A site in memory, which replays its calls and fails or stops where it is told to.
+
+ghost use Rattle.std.specs.Prelude.{List, ◌≡◌, ◌≤◌, ◌<◌, ◌+◌, ◌-◌, ◌^◌, [], ◌∷◌, ◌++◌, ℕ, length};
+ghost use Rattle.std.specs.Prelude.{take, drop, reverse, get_or, true, vec_len, vec_capacity, OnOk};
+ghost use Rattle.std.specs.Prelude.{OnErr, IfOk, IsErr};
 ghost use Rattle.vec_record.specs.Vectors.{AreBytes};
 ghost use Rattle.site_disk.specs.Causes.{HasCause};
 ghost use Rattle.site_disk.specs.Counts.{rise};
@@ -48,14 +52,24 @@ impl Model for MemSite {
 
     ghost Value = { Memory };
 
-    ghost view = { λ m. record { start = m.start; events = reverse m.calls.items; fail = m.fail; stop = m.stop; made = m.made; faults = m.faults; wants = m.wants } };
+    ghost view = { λ m. record {
+      start = m.start;
+      events = reverse m.calls.items;
+      fail = m.fail;
+      stop = m.stop;
+      made =
+          m.made;
+      faults = m.faults;
+      wants = m.wants;
+    } };
 
-    ghost invariant = { λ m. IsReplayed m.start (reverse m.calls.items) (held m.start m.written) m.said.items };
+    ghost invariant = { λ m. IsReplayed m.start (reverse m.calls.items) (held m.start m.written)
+        m.said.items };
 }
 
 impl MemSite {
-    /// A site with this content as its only image. It fails at the calls of these numbers, the first
-    /// being 1, and at each call after the stop.
+    /// A site with this content as its only image. It fails at the calls of these numbers, the
+    /// first being 1, and at each call after the stop.
     pub fn new(content: Bytes, fail: Numbers, stop: Option<u32>) -> MemSite
         ensures start { result.start ≡ content }
         ensures events { result.events ≡ [] }
@@ -65,7 +79,8 @@ impl MemSite {
         ensures faults { result.faults ≡ 0 }
         ensures wants { result.wants ≡ 0 }
         ensures content { (told result).content ≡ content }
-        ensures only { (image : List ℕ) → (told result).may_leave image → image ≡ (told result).content }
+        ensures only { (image : List ℕ) → (told result).may_leave image → image
+            ≡ (told result).content }
         ensures said { (told result).said ≡ [] }
     {
         let alloc = content.allocator();
@@ -98,14 +113,16 @@ impl MemSite {
         &self.said
     }
 
-    /// One image that a crash now may leave. Pick 0 keeps no write since the last sync, pick 1 keeps
-    /// all, pick 2 keeps the first half of each written range and holds 0xA5 in the rest, and every
-    /// other pick keeps all but cuts the file at its length of the last sync.
+    /// One image that a crash now may leave. Pick 0 keeps no write since the last sync, pick 1
+    /// keeps all, pick 2 keeps the first half of each written range and holds 0xA5 in the rest,
+    /// and every other pick keeps all but cuts the file at its length of the last sync.
     pub fn crash_image(&self, pick: u8) -> Result<Bytes, AllocError>
         ensures image { IfOk result (λ image. (told self.now).may_leave image) }
-        ensures none { pick ≡ 0 → IfOk result (λ image. image ≡ (replay self.now.start self.now.events).base) }
+        ensures none { pick ≡ 0
+            → IfOk result (λ image. image ≡ (replay self.now.start self.now.events).base) }
         ensures all { pick ≡ 1 → IfOk result (λ image. image ≡ (told self.now).content) }
-        ensures halves { pick ≡ 2 → IfOk result (λ image. image ≡ halved self.now.start self.now.events) }
+        ensures halves { pick ≡ 2
+            → IfOk result (λ image. image ≡ halved self.now.start self.now.events) }
         ensures cut { 3 ≤ pick → IfOk result (λ image. image ≡ cut self.now.start self.now.events) }
     {
         let content = held_bytes(self.start.as_slice(), &self.written);
@@ -152,9 +169,12 @@ fn picked(
     pick: u8,
 ) -> Result<Bytes, AllocError>
     requires { content.now ≡ (replay start.now (reverse calls.now)).content }
-    ensures none { pick ≡ 0 → IfOk result (λ image. image ≡ (replay start.now (reverse calls.now)).base) }
-    ensures all { pick ≡ 1 → IfOk result (λ image. image ≡ (replay start.now (reverse calls.now)).content) }
-    ensures halves { pick ≡ 2 → IfOk result (λ image. image ≡ halved start.now (reverse calls.now)) }
+    ensures none { pick ≡ 0 → IfOk result
+        (λ image. image ≡ (replay start.now (reverse calls.now)).base) }
+    ensures all { pick ≡ 1 → IfOk result
+        (λ image. image ≡ (replay start.now (reverse calls.now)).content) }
+    ensures halves { pick ≡ 2 → IfOk result
+        (λ image. image ≡ halved start.now (reverse calls.now)) }
     ensures cut { 3 ≤ pick → IfOk result (λ image. image ≡ cut start.now (reverse calls.now)) }
 {
     if pick == 1 {
@@ -194,7 +214,8 @@ fn put_held(
     at: u64,
     bytes: &[u8],
 ) -> Result<(), AllocError>
-    ensures ok { OnOk result (held start.now written.new ≡ put at bytes.now (held start.now written.old)) }
+    ensures ok { OnOk result (held start.now written.new
+        ≡ put at bytes.now (held start.now written.old)) }
     ensures err { OnErr result (held start.now written.new ≡ held start.now written.old) }
 {
     match written {
@@ -227,9 +248,11 @@ fn write_in(
     at: u64,
     bytes: &[u8],
 ) -> Result<(), AllocError>
-    ensures ok { OnOk result (reverse calls.new.items ≡ Call.Write at bytes.now ∷ reverse calls.old.items) }
+    ensures ok { OnOk result (reverse calls.new.items
+        ≡ Call.Write at bytes.now ∷ reverse calls.old.items) }
     ensures err { OnErr result (reverse calls.new.items ≡ reverse calls.old.items) }
-    ensures changed { OnOk result (held start.now written.new ≡ put at bytes.now (held start.now written.old)) }
+    ensures changed { OnOk result
+        (held start.now written.new ≡ put at bytes.now (held start.now written.old)) }
     ensures stays { OnErr result (held start.now written.new ≡ held start.now written.old) }
 {
     let copy = copied(alloc, bytes)?;
@@ -245,7 +268,8 @@ fn say_in(
     calls: &mut Vec<Call>,
     bytes: &[u8],
 ) -> Result<(), AllocError>
-    ensures ok { OnOk result (reverse calls.new.items ≡ Call.Say bytes.now ∷ reverse calls.old.items) }
+    ensures ok { OnOk result (reverse calls.new.items
+        ≡ Call.Say bytes.now ∷ reverse calls.old.items) }
     ensures err { OnErr result (reverse calls.new.items ≡ reverse calls.old.items) }
     ensures changed { OnOk result (said.new.items ≡ said.old.items ++ bytes.now) }
     ensures stays { OnErr result (said.new.items ≡ said.old.items) }

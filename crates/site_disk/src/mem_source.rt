@@ -1,4 +1,7 @@
-ghost use Rattle.std.specs.Prelude.{◌≡◌, ◌≤◌, ◌↔◌, ◌+◌, min, [], length, take, drop, IfOk, OnOk, OnErr, IsErr, IsTrue, true, None};
+//! Input in memory.
+
+ghost use Rattle.std.specs.Prelude.{◌≡◌, ◌≤◌, ◌↔◌, ◌+◌, min, [], length, take, drop, IfOk, OnOk};
+ghost use Rattle.std.specs.Prelude.{OnErr, IsErr, IsTrue, true, None};
 ghost use Rattle.site_disk.specs.Causes.{HasCause};
 ghost use Rattle.site_disk.specs.Takes.{Takes};
 ghost use Rattle.site_disk.specs.Counts.{rise, is_due};
@@ -25,13 +28,21 @@ impl Model for MemSource {
 
     ghost Value = { Input };
 
-    ghost view = { λ s. record { left = drop s.at s.bytes; piece = s.piece; fail = s.fail; made = s.made; faults = s.faults } };
+    ghost view = { λ s. record {
+      left = drop s.at s.bytes;
+      piece = s.piece;
+      fail = s.fail;
+      made = s.made;
+      faults =
+          s.faults;
+    } };
 
     ghost invariant = { λ s. (s.at ≤ length s.bytes) × (1 ≤ s.piece) };
 }
 
 impl MemSource {
-    /// Gives pieces of at most this size, and fails at the calls of these numbers, the first being 1.
+    /// Gives pieces of at most this size, and fails at the calls of these numbers, the first being
+    /// 1.
     pub fn new(bytes: Bytes, piece: usize, fail: Numbers) -> MemSource
         requires { 1 ≤ piece }
         ensures left { result.left ≡ bytes }
@@ -86,7 +97,8 @@ impl Source for MemSource {
         ensures cause { HasCause self.old.faults self.new.faults result }
         ensures bound { IfOk result (λ n. n ≤ length into.new) }
         ensures told { Takes result into.new self.old.left self.new.left }
-        ensures amount { IfOk result (λ n. n ≡ min self.old.piece (min (length into.old) (length self.old.left))) }
+        ensures amount { IfOk result
+            (λ n. n ≡ min self.old.piece (min (length into.old) (length self.old.left))) }
         ensures exact { IsErr result ↔ IsTrue (is_due self.old.fail None self.old.made) }
         ensures made { self.new.made ≡ rise self.old.made }
         ensures ok { OnOk result (self.new.faults ≡ self.old.faults) }

@@ -17,7 +17,8 @@ pub(crate) trait TakesParts {
     fn write_part(&mut self, at: u64, bytes: &[u8]) -> io::Result<usize>
         requires { at + length bytes.now ≤ 2 ^ 63 - 1 }
         ensures bound { IfOk result (λ n. n ≤ length bytes.now) }
-        ensures told { IsTrue tells → PutsPart at bytes.now result (held self.old) (held self.new) };
+        ensures told { IsTrue tells
+            → PutsPart at bytes.now result (held self.old) (held self.new) };
 }
 
 /// What gives bytes from an offset on, a part of them at each call.
@@ -35,11 +36,12 @@ pub(crate) trait GivesParts {
         ensures told { IsTrue tells → IfOk result (λ n. IsPart at n into.new (held self.old)) };
 }
 
-/// Writes all of a piece. A call that a signal cut off is made again, and one that takes nothing is an
-/// error.
+/// Writes all of a piece. A call that a signal cut off is made again, and one that takes nothing
+/// is an error.
 pub(crate) fn write_whole<D: TakesParts>(device: &mut D, at: u64, bytes: &[u8]) -> io::Result<()>
     requires { at + length bytes.now ≤ 2 ^ 63 - 1 }
-    ensures told { IsTrue D.tells → Puts at bytes.now result (D.held device.old) (D.held device.new) }
+    ensures told { IsTrue D.tells
+        → Puts at bytes.now result (D.held device.old) (D.held device.new) }
 {
     let mut taken = 0;
     'parts: for _ in 0..u64::MAX {

@@ -1,3 +1,5 @@
+//! What a site promises.
+
 ghost use Rattle.std.specs.Prelude.{◌≡◌, ◌≤◌, ◌+◌, ◌-◌, ◌^◌, ℕ, length, Bool, IsTrue, IfOk};
 ghost use Rattle.site_disk.specs.Causes.{HasCause};
 ghost use Rattle.site_disk.specs.State.{SiteState, IsNow};
@@ -33,7 +35,8 @@ pub trait Site {
     fn write_at(&mut self, at: u64, bytes: &[u8]) -> Result<(), Failed>
         requires { at + length bytes.now ≤ 2 ^ 63 - 1 }
         ensures cause { HasCause (faults self.old) (faults self.new) result }
-        ensures told { IsTrue tells → Writes at bytes.now result (state self.old) (state self.new) };
+        ensures told { IsTrue tells
+            → Writes at bytes.now result (state self.old) (state self.new) };
 
     /// Makes the content the only image, until the next write.
     fn sync(&mut self) -> Result<(), Failed>

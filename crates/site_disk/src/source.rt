@@ -1,3 +1,5 @@
+//! What a source of input promises.
+
 ghost use Rattle.std.specs.Prelude.{◌≡◌, ◌≤◌, ℕ, Bool, List, length, IsTrue, IfOk};
 ghost use Rattle.site_disk.specs.Causes.{HasCause};
 ghost use Rattle.site_disk.specs.Takes.{Takes};

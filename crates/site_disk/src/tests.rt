@@ -1,3 +1,5 @@
+//! Ten calls on a site in memory, with the images that a stop leaves after each.
+
 use crate::callers::{say_often, write_twice};
 use crate::parts::{read_whole, write_whole};
 use crate::slow_file::SlowFile;
@@ -71,7 +73,8 @@ const ROWS: [[&[u8]; 4]; 11] = [
     ],
 ];
 
-/// The content and the bytes said after the ten calls, where the call of this number failed, by hand.
+/// The content and the bytes said after the ten calls, where the call of this number failed, by
+/// hand.
 const WITHOUT: [(&[u8], &[u8]); 10] = [
     (b"abc12fgPQRS\0\0uv", b"hi\nlo"),
     (b"abXYZfgPQRS\0\0uv", b"hi\nlo"),
@@ -290,7 +293,8 @@ fn drain(source: &mut MemSource, given: &mut Bytes, piece: usize) -> Result<(u8,
     Ok((failed, whole))
 }
 
-/// Pieces of a size, the calls that fail, and how many whole pieces come, of at most five bytes each.
+/// Pieces of a size, the calls that fail, and how many whole pieces come, of at most five bytes
+/// each.
 #[test]
 fn gives_pieces(rt: HostRuntime) -> Result<(), Fail> {
     let alloc = rt.alloc();

@@ -1,3 +1,5 @@
+//! Why a list of pages is not a store.
+
 ghost use Rattle.std.specs.Prelude.{◌≡◌};
 ghost use Rattle.store_image.specs.declared.fault.StoreFault.TheVariants.{Memory};
 

@@ -1,11 +1,13 @@
 //! Laws over the definitions. Each is the contract of a function that does nothing.
 
-ghost use Rattle.store_image.specs.Stores.{SameOpeningsAreAlike, LoadsAreStores, NewStoresLoad, HeadsCountPages, RefusalsAreOfContents};
+ghost use Rattle.store_image.specs.Stores.{SameOpeningsAreAlike, LoadsAreStores, NewStoresLoad};
+ghost use Rattle.store_image.specs.Stores.{HeadsCountPages, RefusalsAreOfContents};
 
 use page_layout::laws::{heads_have_one_spelling, written_are_pages};
 
-/// Contents that the gate checks answer alike, with the same list of pages, are alike as stores: in the
-/// refusal of an opening, the records, the number of batches, the parameters, and whether they are sound.
+/// Contents that the gate checks answer alike, with the same list of pages, are alike as stores:
+/// in the refusal of an opening, the records, the number of batches, the parameters, and whether
+/// they are sound.
 pub fn same_openings_are_alike()
     ensures { SameOpeningsAreAlike }
 {}
@@ -32,8 +34,8 @@ pub fn heads_count_pages()
     written_are_pages();
 }
 
-/// An opening is refused for what the content is: never by a fault of the site, and never by want of
-/// memory.
+/// An opening is refused for what the content is: never by a fault of the site, and never by want
+/// of memory.
 pub fn refusals_are_of_contents()
     ensures { RefusalsAreOfContents }
 {}

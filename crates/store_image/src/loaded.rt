@@ -1,3 +1,5 @@
+//! A store in memory.
+
 use crate::places::Places;
 use page_layout::Head;
 use vec_record::Records;

@@ -1,3 +1,5 @@
+//! The parameters of a store, read from its head page.
+
 ghost use Rattle.std.specs.Prelude.{◌≡◌, ◌≢◌, Ok, Err, MatchResult, IfOk, IfErr};
 ghost use Rattle.page_layout.specs.Heads.{values_of, plain, IsHead, head_of};
 ghost use Rattle.store_image.specs.Loading.{in_page, fault_in, head_in_pages, params_in_pages};
@@ -21,7 +23,8 @@ pub(crate) fn fault_in(page: u32, fault: LayoutFault) -> StoreFault
 
 /// The bytes of page 1 as a head page.
 fn head_of(page: &Page) -> Result<Head, StoreFault>
-    ensures head { MatchResult result (λ h. in_page 1 (head_of page.now) ≡ Ok (plain h)) (λ e. in_page 1 (head_of page.now) ≡ Err e) }
+    ensures head { MatchResult result (λ h. in_page 1 (head_of page.now) ≡ Ok (plain h))
+        (λ e. in_page 1 (head_of page.now) ≡ Err e) }
     ensures lawful { IfOk result (λ h. IsHead (plain h)) }
     ensures memory { IfErr result (λ e. e ≢ Memory) }
 {
@@ -33,7 +36,8 @@ fn head_of(page: &Page) -> Result<Head, StoreFault>
 
 /// The head page, or why page 1 isn't read. It takes no memory.
 pub(crate) fn find_head(pages: &Pages) -> Result<Head, StoreFault>
-    ensures head { MatchResult result (λ h. head_in_pages pages.now.list ≡ Ok (plain h)) (λ e. head_in_pages pages.now.list ≡ Err e) }
+    ensures head { MatchResult result (λ h. head_in_pages pages.now.list ≡ Ok (plain h))
+        (λ e. head_in_pages pages.now.list ≡ Err e) }
     ensures lawful { IfOk result (λ h. IsHead (plain h)) }
     ensures memory { IfErr result (λ e. e ≢ Memory) }
 {
@@ -43,10 +47,11 @@ pub(crate) fn find_head(pages: &Pages) -> Result<Head, StoreFault>
     }
 }
 
-/// The parameters of the store: those of page 1. `Foreign` and `Damaged` come exactly where page 1 isn't a
-/// lawful head page of a known version; it takes no memory.
+/// The parameters of the store: those of page 1. `Foreign` and `Damaged` come exactly where page 1
+/// isn't a lawful head page of a known version; it takes no memory.
 pub fn read_params(pages: &Pages) -> Result<Params, StoreFault>
-    ensures params { MatchResult result (λ p. params_in_pages pages.now.list ≡ Ok (values_of p)) (λ e. params_in_pages pages.now.list ≡ Err e) }
+    ensures params { MatchResult result (λ p. params_in_pages pages.now.list ≡ Ok (values_of p))
+        (λ e. params_in_pages pages.now.list ≡ Err e) }
     ensures memory { IfErr result (λ e. e ≢ Memory) }
 {
     match find_head(pages) {

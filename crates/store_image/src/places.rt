@@ -1,3 +1,5 @@
+//! Where each record lies.
+
 ghost use Rattle.std.specs.Prelude.{◌≡◌, ◌<◌, ◌≤◌, ◌+◌, ◌*◌, ◌^◌, IfOk, slice_index};
 ghost use Rattle.store_image.specs.Slots.{AreOnce, by_slot, number_in, places_of};
 
@@ -7,7 +9,8 @@ use vec_record::Number;
 
 /// Where each record lies, by its number: its page and its slot there.
 ///
-/// What is kept are the numbers by slot, over all record pages in their order; 0 where a slot is free.
+/// What is kept are the numbers by slot, over all record pages in their order; 0 where a slot is
+/// free.
 #[derive(Drop)]
 pub struct Places {
     size: usize,

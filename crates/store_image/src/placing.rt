@@ -1,6 +1,7 @@
 //! How a save gives slots to numbers.
 
-ghost use Rattle.std.specs.Prelude.{◌≡◌, ◌<◌, ◌≤◌, ◌==◌, ℕ, not, if◌then◌else◌, [], ◌∷◌, ◌++◌, length, filter, map, drop, IfOk, OnOk};
+ghost use Rattle.std.specs.Prelude.{◌≡◌, ◌<◌, ◌≤◌, ◌==◌, ℕ, not, if◌then◌else◌, [], ◌∷◌, ◌++◌};
+ghost use Rattle.std.specs.Prelude.{length, filter, map, drop, IfOk, OnOk};
 ghost use Rattle.std.specs.List.{list_any};
 ghost use Rattle.std.specs.List.Sorted.{IsNonDecreasing};
 ghost use Rattle.store_image.specs.Placing.{filled, padded};
@@ -20,7 +21,8 @@ fn is_among(numbers: &[Number], number: Number) -> bool
 /// The numbers in rising order.
 fn rising(alloc: Global, numbers: &[Number]) -> Result<Vec<Number>, AllocError>
     ensures rising { IfOk result (λ v. IsNonDecreasing v.items) }
-    ensures same { IfOk result (λ v. (n : ℕ) → list_any (λ m. m == n) v.items ≡ list_any (λ m. m == n) numbers.now) }
+    ensures same { IfOk result
+        (λ v. (n : ℕ) → list_any (λ m. m == n) v.items ≡ list_any (λ m. m == n) numbers.now) }
 {
     let mut sorted = Vec::from_slice(alloc, numbers)?;
     sorted.sort_unstable();
@@ -30,7 +32,8 @@ fn rising(alloc: Global, numbers: &[Number]) -> Result<Vec<Number>, AllocError>
 /// The numbers that aren't among those that have slots.
 fn without(alloc: Global, numbers: &[Number], placed: &[Number]) -> Result<Vec<Number>, AllocError>
     requires { IsNonDecreasing placed.now }
-    ensures { IfOk result (λ v. v.items ≡ filter (λ n. not (list_any (λ m. m == n) placed.now)) numbers.now) }
+    ensures { IfOk result (λ v. v.items
+        ≡ filter (λ n. not (list_any (λ m. m == n) placed.now)) numbers.now) }
 {
     let mut new = Vec::new(alloc);
     for number in numbers {
@@ -44,7 +47,8 @@ fn without(alloc: Global, numbers: &[Number], placed: &[Number]) -> Result<Vec<N
 /// The numbers by slot, with 0 for those that are no longer there.
 fn freed(alloc: Global, places: &[Number], numbers: &[Number]) -> Result<Vec<Number>, AllocError>
     requires { IsNonDecreasing numbers.now }
-    ensures { IfOk result (λ v. v.items ≡ map (λ n. if list_any (λ m. m == n) numbers.now then n else 0) places.now) }
+    ensures { IfOk result (λ v. v.items
+        ≡ map (λ n. if list_any (λ m. m == n) numbers.now then n else 0) places.now) }
 {
     let mut slots = Vec::new(alloc);
     for place in places {
@@ -97,7 +101,9 @@ pub(crate) fn place(
 ) -> Result<Vec<Number>, AllocError>
     requires some { 0 < size }
     requires few { size ≤ 16384 }
-    ensures { IfOk result (λ v. v.items ≡ padded size (filled (freed records.now.vectors places.now) (slotless records.now.vectors places.now))) }
+    ensures { IfOk result (λ v. v.items
+        ≡ padded size (filled (freed records.now.vectors places.now)
+        (slotless records.now.vectors places.now))) }
 {
     let numbers = records.numbers()?;
     let sorted = rising(alloc, places)?;

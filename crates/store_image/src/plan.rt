@@ -1,16 +1,19 @@
 //! Which pages a save changes.
 
-ghost use Rattle.std.specs.Prelude.{◌≡◌, ◌≢◌, ◌<◌, ◌≤◌, ◌^◌, ◌+◌, ◌-◌, ◌*◌, ◌/◌, ℕ, not, [], ◌∷◌, ◌++◌, length, map, set, get_or, None, Some, Ok, IfOk, OnOk, OnErr, IsTrue, slice_index};
+ghost use Rattle.std.specs.Prelude.{◌≡◌, ◌≢◌, ◌<◌, ◌≤◌, ◌^◌, ◌+◌, ◌-◌, ◌*◌, ◌/◌, ℕ, not};
+ghost use Rattle.std.specs.Prelude.{◌++◌, length, map, get_or, None, Some, Ok, IfOk, OnOk};
+ghost use Rattle.std.specs.Prelude.{OnErr, IsTrue, slice_index};
 ghost use Rattle.std.specs.List.{AllByRecursion};
 ghost use Rattle.std.specs.FinMap as maps;
 ghost use Rattle.vec_record.specs.Vectors.{IsWidth};
 ghost use Rattle.vec_record.specs.Limits.{width_of};
 ghost use Rattle.page_layout.specs.Heads.{values_of, plain, IsHead};
-ghost use Rattle.page_layout.specs.Bodies.{Rows, AreRows, IsRow, slots_in_page, body_page};
+ghost use Rattle.page_layout.specs.Bodies.{IsRow, slots_in_page, body_page, FillsRow};
 ghost use Rattle.page_gate.specs.Writes.{pairs, written, new_count, IsPlan};
 ghost use Rattle.store_image.specs.Images.{image_of};
 ghost use Rattle.store_image.specs.Loading.{load_of};
-ghost use Rattle.store_image.specs.Placing.{slot_for, pages_with, writes_from, places_on, head_on, saved_on, AreAt, CanSave};
+ghost use Rattle.store_image.specs.Placing.{slot_for, pages_with, writes_from, places_on, head_on};
+ghost use Rattle.store_image.specs.Placing.{saved_on, AreAt, CanSave};
 ghost use Rattle.store_image.specs.Steps.{is_as_was, one_write, Saves};
 
 use crate::loaded::Loaded;
@@ -36,7 +39,8 @@ fn put_record(params: &Params, records: &Records, place: usize, number: Number, 
     requires place { place < slots_in_page (width_of params.now.metric params.now.dim) }
     requires row { IsRow (values_of params.now) (slot_for records.now.vectors number) }
     requires there { number ≢ 0 → IsTrue (maps.contains_key records.now.vectors number) }
-    ensures { (rows : Rows) → AreRows (values_of params.now) rows → get_or rows place None ≡ None → out.old ≡ body_page (width_of params.now.metric params.now.dim) rows → out.new ≡ body_page (width_of params.now.metric params.now.dim) (set rows place (slot_for records.now.vectors number)) }
+    ensures { FillsRow (values_of params.now) place (slot_for records.now.vectors number)
+        out.old out.new }
 {
     if number == 0 {
         return;
@@ -73,7 +77,8 @@ fn keep_changed(
     writes: &mut PageWrites,
 ) -> Result<(), AllocError>
     requires { 1 ≤ number }
-    ensures { OnOk result (pairs writes.new ≡ pairs writes.old ++ one_write 1 pages.now.list (number - 1) page.old) }
+    ensures { OnOk result (pairs writes.new
+        ≡ pairs writes.old ++ one_write 1 pages.now.list (number - 1) page.old) }
 {
     if is_changed(pages, number, page) {
         let bytes = mem::replace(page, Page::zeros(alloc)?);
@@ -87,10 +92,14 @@ fn keep_changed(
 
 /// Fills a record page with the records of these numbers, one for each slot.
 fn fill_page(params: &Params, records: &Records, numbers: &[Number], out: &mut Page)
-    requires count { length numbers.now ≡ slots_in_page (width_of params.now.metric params.now.dim) }
-    requires rows { AllByRecursion (IsRow (values_of params.now)) (map (slot_for records.now.vectors) numbers.now) }
-    requires there { (k : ℕ) → get_or numbers.now k 0 ≢ 0 → IsTrue (maps.contains_key records.now.vectors (get_or numbers.now k 0)) }
-    ensures { out.new ≡ body_page (width_of params.now.metric params.now.dim) (map (slot_for records.now.vectors) numbers.now) }
+    requires count { length numbers.now
+        ≡ slots_in_page (width_of params.now.metric params.now.dim) }
+    requires rows { AllByRecursion (IsRow (values_of params.now))
+        (map (slot_for records.now.vectors) numbers.now) }
+    requires there { (k : ℕ) → get_or numbers.now k 0 ≢ 0
+        → IsTrue (maps.contains_key records.now.vectors (get_or numbers.now k 0)) }
+    ensures { out.new ≡ body_page (width_of params.now.metric params.now.dim)
+        (map (slot_for records.now.vectors) numbers.now) }
 {
     clear_body(out);
     for place in 0..numbers.len() {
@@ -107,10 +116,16 @@ fn plan_pages(
     numbers: &[Number],
 ) -> Result<PageWrites, AllocError>
     requires head { IsHead (plain head.now) }
-    requires count { (plain head.now).pages ≡ 2 + length numbers.now / slots_in_page (width_of head.now.params.metric head.now.params.dim) }
-    requires rows { AllByRecursion (IsRow (plain head.now).values) (map (slot_for records.now.vectors) numbers.now) }
-    requires there { (k : ℕ) → get_or numbers.now k 0 ≢ 0 → IsTrue (maps.contains_key records.now.vectors (get_or numbers.now k 0)) }
-    ensures { IfOk result (λ w. pairs w ≡ writes_from 1 pages.now.list (pages_with (plain head.now) records.now.vectors numbers.now)) }
+    requires count { (plain head.now).pages
+        ≡ 2 + length numbers.now / slots_in_page
+        (width_of head.now.params.metric head.now.params.dim) }
+    requires rows { AllByRecursion (IsRow (plain head.now).values)
+        (map (slot_for records.now.vectors) numbers.now) }
+    requires there { (k : ℕ) → get_or numbers.now k 0 ≢ 0
+        → IsTrue (maps.contains_key records.now.vectors (get_or numbers.now k 0)) }
+    ensures { IfOk result (λ w. pairs w
+        ≡ writes_from 1 pages.now.list
+        (pages_with (plain head.now) records.now.vectors numbers.now)) }
 {
     let size = slots_in_page(&head.params);
     let mut writes = PageWrites::new(alloc);
@@ -135,7 +150,12 @@ fn next_head(head: &Head, records: &Records, pages: usize) -> Head
     requires pages { pages + 2 < 2 ^ 32 }
     requires batches { head.now.batches + 1 < 2 ^ 32 }
     requires count { maps.len records.now.vectors < 2 ^ 32 }
-    ensures { plain result ≡ record (plain head.now) { pages = 2 + pages; batches = head.now.batches + 1; count = maps.len records.now.vectors } }
+    ensures { plain result ≡ record (plain head.now) {
+      pages = 2 + pages;
+      batches = head.now.batches + 1;
+      count = maps.len
+          records.now.vectors;
+    } }
 {
     Head {
         pages: pages as u32 + 2,
@@ -157,7 +177,8 @@ fn known(numbers: &[Number]) -> &[Number]
 fn next_numbers(alloc: Global, pages: &Pages, state: &Loaded) -> Result<Vec<Number>, AllocError>
     requires at { AreAt (plain state.now.head) state.now.places pages.now.list }
     requires can { CanSave (plain state.now.head) state.now.records }
-    ensures { IfOk result (λ v. Saves (plain state.now.head) state.now.places state.now.records pages.now.list v.items) }
+    ensures { IfOk result (λ v. Saves (plain state.now.head) state.now.places state.now.records
+        pages.now.list v.items) }
 {
     heads_have_one_spelling();
     bodies_have_one_spelling();
@@ -170,9 +191,9 @@ fn next_numbers(alloc: Global, pages: &Pages, state: &Loaded) -> Result<Vec<Numb
     Ok(numbers)
 }
 
-/// Gives the records of a state their slots, and plans the pages that a commit then has to write. The
-/// pages must be those of the state's head and places, and room is made in them for the new ones. After
-/// Ok the state's head and places are those of the pages after the commit.
+/// Gives the records of a state their slots, and plans the pages that a commit then has to write.
+/// The pages must be those of the state's head and places, and room is made in them for the new
+/// ones. After Ok the state's head and places are those of the pages after the commit.
 pub fn plan_save(
     alloc: Global,
     pages: &mut Pages,
@@ -182,14 +203,19 @@ pub fn plan_save(
     requires can { CanSave (plain state.old.head) state.old.records }
     ensures same { pages.new.list ≡ pages.old.list }
     ensures plan { IfOk result (λ w. IsPlan pages.old.list (pairs w)) }
-    ensures room { IfOk result (λ w. new_count (pairs w) ≤ length pages.old.list + 1 + pages.new.spare) }
-    ensures writes { IfOk result (λ w. pairs w ≡ writes_from 1 pages.old.list (saved_on pages.old.list state.old)) }
-    ensures written { IfOk result (λ w. written pages.old.list (pairs w) ≡ saved_on pages.old.list state.old) }
-    ensures loads { OnOk result (load_of (saved_on pages.old.list state.old) ≡ Ok (image_of state.new)) }
+    ensures room { IfOk result
+        (λ w. new_count (pairs w) ≤ length pages.old.list + 1 + pages.new.spare) }
+    ensures writes { IfOk result
+        (λ w. pairs w ≡ writes_from 1 pages.old.list (saved_on pages.old.list state.old)) }
+    ensures written { IfOk result
+        (λ w. written pages.old.list (pairs w) ≡ saved_on pages.old.list state.old) }
+    ensures loads { OnOk result
+        (load_of (saved_on pages.old.list state.old) ≡ Ok (image_of state.new)) }
     ensures records { OnOk result (state.new.records ≡ state.old.records) }
     ensures places { OnOk result (state.new.places ≡ places_on pages.old.list state.old) }
     ensures head { OnOk result (plain state.new.head ≡ head_on pages.old.list state.old) }
-    ensures at { OnOk result (AreAt (plain state.new.head) state.new.places (saved_on pages.old.list state.old)) }
+    ensures at { OnOk result (AreAt (plain state.new.head) state.new.places
+        (saved_on pages.old.list state.old)) }
     ensures err { OnErr result (state.new ≡ state.old) }
 {
     let numbers = next_numbers(alloc, pages, state)?;

@@ -1,3 +1,5 @@
+//! Stores saved and loaded again, and the bytes of their pages.
+
 ghost use Rattle.std.specs.Prelude.{◌≡◌, ◌≤◌, IfOk, OnOk};
 ghost use Rattle.std.specs.List.{AllByRecursion};
 ghost use Rattle.std.specs.FinMap as maps;
@@ -52,9 +54,11 @@ fn put(
     byte: u8,
 ) -> Result<(), StoreFault>
     requires width { records.old.width ≡ width_of params.now.metric params.now.dim }
-    requires each { AllByRecursion (CanStand (values_of params.now)) (maps.entries records.old.vectors) }
+    requires each { AllByRecursion (CanStand (values_of params.now))
+        (maps.entries records.old.vectors) }
     ensures width { OnOk result (records.new.width ≡ width_of params.now.metric params.now.dim) }
-    ensures each { OnOk result (AllByRecursion (CanStand (values_of params.now)) (maps.entries records.new.vectors)) }
+    ensures each { OnOk result
+        (AllByRecursion (CanStand (values_of params.now)) (maps.entries records.new.vectors)) }
 {
     let width = params.width() as usize;
     let bytes = [byte; 512];
@@ -74,7 +78,8 @@ fn put(
 /// The records of a table of numbers with a byte each.
 fn records_of(alloc: Global, params: &Params, table: &[(Number, u8)]) -> Result<Records, StoreFault>
     ensures width { IfOk result (λ r. r.width ≡ width_of params.now.metric params.now.dim) }
-    ensures each { IfOk result (λ r. AllByRecursion (CanStand (values_of params.now)) (maps.entries r.vectors)) }
+    ensures each { IfOk result
+        (λ r. AllByRecursion (CanStand (values_of params.now)) (maps.entries r.vectors)) }
     ensures few { IfOk result (λ r. maps.len r.vectors ≤ params.now.cap) }
 {
     let mut records = Records::new(alloc, params.width());
@@ -120,7 +125,8 @@ const BODY: [u8; 33] = [
 /// Bytes 8 to 19 of page 0: the redo start and the redo count.
 const REDO: [u8; 12] = [0, 0xc0, 0, 0, 0, 0, 0, 0, 2, 0, 0, 0];
 
-/// A store with these parameters that was brought to the records of these tables, one after another.
+/// A store with these parameters that was brought to the records of these tables, one after
+/// another.
 fn store_of(
     alloc: Global,
     params: Params,
@@ -170,8 +176,8 @@ fn numbers_at(content: &[u8]) -> [u32; 4] {
     numbers
 }
 
-/// The records before and after each save of one store, the numbers of its first four slots after it,
-/// and how many pages the save writes.
+/// The records before and after each save of one store, the numbers of its first four slots after
+/// it, and how many pages the save writes.
 const SAVES: [(&[(Number, u8)], [u32; 4], usize); 6] = [
     (&[(9, 1), (5, 1), (2, 1)], [2, 5, 9, 0], 2),
     (&[(4, 1), (7, 1), (9, 1)], [4, 7, 9, 0], 2),

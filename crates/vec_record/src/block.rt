@@ -8,8 +8,8 @@ use crate::vector::known;
 use std::alloc::{AllocError, Global};
 use std::marker::Model;
 
-/// Vectors of one width, the rows, one behind another in one list of bytes, without a gap. Contracts
-/// see the width and the list of rows. It takes memory only to grow.
+/// Vectors of one width, the rows, one behind another in one list of bytes, without a gap.
+/// Contracts see the width and the list of rows. It takes memory only to grow.
 #[derive(Drop)]
 pub struct Block {
     width: usize,
@@ -127,7 +127,8 @@ impl Block {
 // Puts bytes at a place, before the bytes from there on.
 fn put_in(bytes: &mut Vec<u8>, at: usize, row: &[u8]) -> Result<(), AllocError>
     requires { at ≤ length bytes.old.items }
-    ensures ok { OnOk result (bytes.new.items ≡ take at bytes.old.items ++ (row.now ++ drop at bytes.old.items)) }
+    ensures ok { OnOk result (bytes.new.items
+        ≡ take at bytes.old.items ++ (row.now ++ drop at bytes.old.items)) }
     ensures err { OnErr result (bytes.new.items ≡ bytes.old.items) }
 {
     let len = bytes.len();

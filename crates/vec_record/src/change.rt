@@ -1,3 +1,5 @@
+//! Changes of records.
+
 ghost use Rattle.std.specs.Prelude.{◌≡◌, [], ◌∷◌, ◌++◌, length, OnOk, OnErr};
 
 use crate::numbers::Number;

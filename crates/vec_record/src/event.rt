@@ -1,3 +1,5 @@
+//! Events: what a change did to the clusters.
+
 ghost use Rattle.std.specs.Prelude.{◌≡◌, [], ◌∷◌, ◌++◌, length, OnOk, OnErr};
 
 use crate::numbers::Number;

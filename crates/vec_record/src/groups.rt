@@ -1,3 +1,5 @@
+//! A list of lists of numbers.
+
 ghost use Rattle.std.specs.Prelude.{◌≡◌, [], ◌∷◌, ◌++◌, length, OnOk, OnErr};
 
 use crate::numbers::Numbers;

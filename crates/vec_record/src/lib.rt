@@ -1,9 +1,9 @@
 //! Numbered vectors, the parameters of a store, and what a metric is.
 //!
-//! The base of the house: it stands on no other crate. A collection of [`Records`] is promised to be a
-//! finite map from numbers to lists of bytes of one width, in which each call changes one number
-//! alone; a [`Metric`] is promised to be a distance with five laws, each call of which counts one
-//! on the caller's [`Steps`].
+//! The base of the house: it stands on no other crate. A collection of [`Records`] is promised to
+//! be a finite map from numbers to lists of bytes of one width, in which each call changes one
+//! number alone; a [`Metric`] is promised to be a distance with five laws, each call of which
+//! counts one on the caller's [`Steps`].
 #![tactic(auto)]
 
 pub mod block;

@@ -1,3 +1,5 @@
+//! What a metric promises.
+
 ghost use Rattle.std.specs.Prelude.{◌≡◌, ℕ, ◌+◌, ◌-◌, ◌≤◌, ◌↔◌, List, length, take};
 ghost use Rattle.vec_record.specs.Vectors.{IsVector, IsWidth};
 ghost use Rattle.vec_record.specs.Distance.{distance_of, greatest_of, most_distance};
@@ -32,7 +34,8 @@ pub trait Metric {
         ensures value { result ≡ most width }
         ensures small { result ≤ most_distance };
 
-    /// The distance of two vectors of one length of 1 to 512 bytes. It takes no memory and counts one.
+    /// The distance of two vectors of one length of 1 to 512 bytes. It takes no memory and counts
+    /// one.
     fn distance<L: Ledger>(a: &Vector, b: &Vector, steps: &mut Steps<L>) -> u32
         requires same { length a.now ≡ length b.now }
         requires width { IsWidth (length a.now) }
@@ -90,17 +93,22 @@ pub trait Metric {
         ensures counts { steps.new ≡ steps.old + length places.now };
 
     // Distance 0 is equality.
-    ghost identity: { (w : ℕ) (u v : List ℕ) → IsWidth w → IsVector w u → IsVector w v → (dist u v ≡ 0) ↔ (u ≡ v) };
+    ghost identity: { (w : ℕ) (u v : List ℕ) → IsWidth w → IsVector w u → IsVector w v
+        → (dist u v ≡ 0) ↔ (u ≡ v) };
 
     // The distance is symmetric.
-    ghost symmetry: { (w : ℕ) (u v : List ℕ) → IsWidth w → IsVector w u → IsVector w v → dist u v ≡ dist v u };
+    ghost symmetry: { (w : ℕ) (u v : List ℕ) → IsWidth w → IsVector w u → IsVector w v → dist u v
+        ≡ dist v u };
 
     // The triangle law.
-    ghost triangle: { (w : ℕ) (u v x : List ℕ) → IsWidth w → IsVector w u → IsVector w v → IsVector w x → dist u x ≤ dist u v + dist v x };
+    ghost triangle: { (w : ℕ) (u v x : List ℕ) → IsWidth w → IsVector w u → IsVector w v
+        → IsVector w x → dist u x ≤ dist u v + dist v x };
 
     // No distance is above the greatest one.
-    ghost bound: { (w : ℕ) (u v : List ℕ) → IsWidth w → IsVector w u → IsVector w v → dist u v ≤ most w };
+    ghost bound: { (w : ℕ) (u v : List ℕ) → IsWidth w → IsVector w u → IsVector w v → dist u v
+        ≤ most w };
 
     // Both are those of the kind.
-    ghost defined: { (w : ℕ) (u v : List ℕ) → IsWidth w → IsVector w u → IsVector w v → (dist u v ≡ distance_of KIND u v) × (most w ≡ greatest_of KIND w) };
+    ghost defined: { (w : ℕ) (u v : List ℕ) → IsWidth w → IsVector w u → IsVector w v
+        → (dist u v ≡ distance_of KIND u v) × (most w ≡ greatest_of KIND w) };
 }

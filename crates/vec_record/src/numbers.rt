@@ -1,3 +1,5 @@
+//! The numbers of records, and lists of them.
+
 ghost use Rattle.std.specs.Prelude.{◌≡◌, [], ◌∷◌, ◌++◌, length, OnOk, OnErr};
 
 use std::alloc::{AllocError, Global};

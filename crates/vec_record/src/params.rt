@@ -1,3 +1,5 @@
+//! The parameters of a store, and their limits.
+
 ghost use Rattle.std.specs.Prelude.{◌≡◌, ◌↔◌, IsTrue, IsSome, IfSome};
 ghost use Rattle.vec_record.specs.Vectors.{IsWidth};
 ghost use Rattle.vec_record.specs.Limits.{are_within, width_of};

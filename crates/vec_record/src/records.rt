@@ -1,3 +1,5 @@
+//! Numbered vectors.
+
 ghost use Rattle.std.specs.Prelude.{◌≡◌, ◌≢◌, length, None, IfOk, IfSome, OnOk, OnErr};
 ghost use Rattle.std.specs.List.{AllByRecursion};
 ghost use Rattle.std.specs.Option.{option_copied};
@@ -72,7 +74,8 @@ impl Records {
         requires number { number ≢ 0 }
         requires absent { map.get self.old.vectors number ≡ None }
         requires width { length vector ≡ self.old.width }
-        ensures ok { OnOk result (self.new ≡ record self.old { vectors = map.insert self.old.vectors number vector }) }
+        ensures ok { OnOk result
+            (self.new ≡ record self.old { vectors = map.insert self.old.vectors number vector }) }
         ensures err { OnErr result (self.new ≡ self.old) }
     {
         let _ = vector.as_slice();

@@ -1,9 +1,12 @@
+//! The count of computed distances.
+
 ghost use Rattle.std.specs.Prelude.{◌≡◌, ◌+◌, ◌<◌};
 
 use std::marker::Model;
 use std::sync::ledger::{Blank, Book, Ledger, Share};
 
-/// How many distances were computed. It takes no memory and no time, and only `tick` and `tick_many` change it.
+/// How many distances were computed. It takes no memory and no time, and only `tick` and
+/// `tick_many` change it.
 #[derive(Drop)]
 pub struct Steps<L: Ledger> {
     book: Book<L>,

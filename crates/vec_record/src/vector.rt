@@ -1,3 +1,5 @@
+//! A vector of bytes.
+
 ghost use Rattle.std.specs.Prelude.{◌≡◌, ◌↔◌, ◌≤◌, length, IfOk, IfSome, IsSome};
 ghost use Rattle.vec_record.specs.Vectors.{AreBytes};
 ghost use Rattle.vec_record.specs.Place.{bytes_of, IsWithin};
@@ -8,8 +10,8 @@ use std::marker::Model;
 // So many bytes fill the value to the size that it has anyway.
 const SHORT: usize = 30;
 
-/// Where the bytes of a vector lie: those of a short one in the value itself, so that it is read without
-/// another look into memory.
+/// Where the bytes of a vector lie: those of a short one in the value itself, so that it is read
+/// without another look into memory.
 #[derive(Drop)]
 pub(crate) enum Place {
     Short { len: u8, bytes: [u8; SHORT] },
@@ -32,7 +34,8 @@ impl Model for Vector {
     ghost invariant = { λ v. IsWithin v.place };
 }
 
-// By hand, so that the proof of a caller that drops a vector has one case and not one for each place.
+// By hand, so that the proof of a caller that drops a vector has one case and not one for each
+// place.
 impl Drop for Vector {
     fn drop(self) {
         let Vector { place: _ } = self;

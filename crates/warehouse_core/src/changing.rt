@@ -58,13 +58,16 @@ pub(crate) fn apply_changes<M: Metric, L: Ledger>(
     requires kind { params.now.metric ≡ M.KIND }
     requires holds { CanHold (values_of params.now) records.old }
     requires marks { marks.old ≡ marks_on (values_of params.now) records.old.vectors }
-    requires fits { AllByRecursion (IsChangeOf (width_of params.now.metric params.now.dim)) changes }
+    requires fits { AllByRecursion (IsChangeOf (width_of params.now.metric params.now.dim))
+        changes }
     requires spelled { AllByRecursion (IsSpelledChange params.now.metric params.now.dim) changes }
     requires accepted { IsOk (after params.now.cap records.old.vectors changes) }
-    ensures records { OnOk result (records.new.vectors ≡ rows_after (values_of params.now) records.old.vectors changes) }
+    ensures records { OnOk result
+        (records.new.vectors ≡ rows_after (values_of params.now) records.old.vectors changes) }
     ensures holds { OnOk result (CanHold (values_of params.now) records.new) }
     ensures marks { OnOk result (marks.new ≡ marks_on (values_of params.now) records.new.vectors) }
-    ensures events { IfOk result (λ events. events ≡ events_of (values_of params.now) records.old.vectors changes) }
+    ensures events { IfOk result
+        (λ events. events ≡ events_of (values_of params.now) records.old.vectors changes) }
     ensures counts { steps.old ≤ steps.new }
 {
     let mut events = Events::new(alloc);

@@ -19,8 +19,10 @@ pub(crate) fn cluster<M: Metric, L: Ledger>(
     steps: &mut Steps<L>,
 ) -> Result<Marks, AllocError>
     requires kind { params.now.metric ≡ M.KIND }
-    requires each { AllByRecursion (CanStand (values_of params.now)) (map.entries records.now.vectors) }
-    ensures marks { IfOk result (λ marks. marks ≡ marks_on (values_of params.now) records.now.vectors) }
+    requires each { AllByRecursion (CanStand (values_of params.now))
+        (map.entries records.now.vectors) }
+    ensures marks { IfOk result
+        (λ marks. marks ≡ marks_on (values_of params.now) records.now.vectors) }
     ensures counts { steps.old ≤ steps.new }
 {
     cluster_plain::<M, L>(alloc, records, params.eps, params.minpts, steps)

@@ -1,5 +1,6 @@
 //! What becomes of a batch, before anything is changed.
-ghost use Rattle.std.specs.Prelude.{◌≡◌, ◌≢◌, ◌≤◌, ◌<◌, true, Ok, Err, length, IsOk, IfOk, IfErr, OnOk};
+ghost use Rattle.std.specs.Prelude.{◌≡◌, ◌≢◌, ◌≤◌, ◌<◌, true, Ok, Err, length, IsOk, IfOk, IfErr};
+ghost use Rattle.std.specs.Prelude.{OnOk};
 ghost use Rattle.std.specs.List.{AllByRecursion};
 ghost use Rattle.vec_record.specs.Limits.{width_of};
 ghost use Rattle.page_layout.specs.Heads.{values_of};
@@ -25,10 +26,14 @@ fn judge_records(
     batch: ReadBatch,
 ) -> Result<Changes, Refusal>
     requires { length batch.changes ≤ 100_000 }
-    ensures ok { IfOk result (λ changes. judged (values_of params.now) records.now.vectors batch ≡ Ok changes) }
+    ensures ok { IfOk result (λ changes. judged (values_of params.now) records.now.vectors batch
+        ≡ Ok changes) }
     ensures changes { IfOk result (λ changes. changes ≡ batch.changes) }
-    ensures accepted { IfOk result (λ changes. IsOk (after params.now.cap records.now.vectors changes)) }
-    ensures err { IfErr result (λ e. is_numbered e ≡ true → judged (values_of params.now) records.now.vectors batch ≡ Err e) }
+    ensures accepted { IfOk result
+        (λ changes. IsOk (after params.now.cap records.now.vectors changes)) }
+    ensures err { IfErr result
+        (λ e. is_numbered e ≡ true → judged (values_of params.now) records.now.vectors batch
+        ≡ Err e) }
     ensures site { IfErr result (λ e. e ≢ SiteFault) }
 {
     check_batch(alloc, records, params, &batch.changes)?;
@@ -47,12 +52,19 @@ pub(crate) fn judge(
     body: &[u8],
 ) -> Result<Changes, Refusal>
     requires { length body.now ≤ 67_108_864 }
-    ensures ok { IfOk result (λ changes. outcome (values_of params.now) batches records.now.vectors body.now ≡ Ok changes) }
-    ensures fits { IfOk result (λ changes. AllByRecursion (IsChangeOf (width_of params.now.metric params.now.dim)) changes) }
-    ensures spelled { IfOk result (λ changes. AllByRecursion (IsSpelledChange params.now.metric params.now.dim) changes) }
-    ensures accepted { IfOk result (λ changes. IsOk (after params.now.cap records.now.vectors changes)) }
+    ensures ok { IfOk result (λ changes. outcome (values_of params.now) batches records.now.vectors
+        body.now ≡ Ok changes) }
+    ensures fits { IfOk result
+        (λ changes. AllByRecursion (IsChangeOf (width_of params.now.metric params.now.dim))
+        changes) }
+    ensures spelled { IfOk result
+        (λ changes. AllByRecursion (IsSpelledChange params.now.metric params.now.dim) changes) }
+    ensures accepted { IfOk result
+        (λ changes. IsOk (after params.now.cap records.now.vectors changes)) }
     ensures batches { OnOk result (batches < 4294967295) }
-    ensures err { IfErr result (λ e. is_numbered e ≡ true → outcome (values_of params.now) batches records.now.vectors body.now ≡ Err e) }
+    ensures err { IfErr result
+        (λ e. is_numbered e ≡ true
+        → outcome (values_of params.now) batches records.now.vectors body.now ≡ Err e) }
     ensures site { IfErr result (λ e. e ≢ SiteFault) }
 {
     let batch = read_batch(alloc, body, params)?;

@@ -1,8 +1,8 @@
 //! Laws over the definitions. Each is the contract of a function that does nothing.
 ghost use Rattle.warehouse_core.specs.Applying.{DueAreNumbered};
 
-/// What is due to a body is its changes or a refusal with a number: never a fault of the site, and never
-/// want of memory.
+/// What is due to a body is its changes or a refusal with a number: never a fault of the site, and
+/// never want of memory.
 pub fn due_are_numbered()
     ensures { DueAreNumbered }
 {}

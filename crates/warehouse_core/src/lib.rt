@@ -1,8 +1,8 @@
 //! The warehouse: records, their marks and their store, changed by one batch at a time.
 //!
-//! It stands on every layer below the top call. [`Warehouse::apply`] takes a batch as one step: refused with
-//! everything as it was, or committed whole; at every moment of the call a crash leaves the store before the
-//! batch or the one after it.
+//! It stands on every layer below the top call. [`Warehouse::apply`] takes a batch as one step:
+//! refused with everything as it was, or committed whole; at every moment of the call a crash
+//! leaves the store before the batch or the one after it.
 #![tactic(auto)]
 
 mod changing;

@@ -49,7 +49,8 @@ fn has_core(marks: &[(Number, Mark)], label: Number) -> bool
 
 /// The marks with the label.
 fn with_label(alloc: Global, marks: &[(Number, Mark)], label: Number) -> Result<Marks, AllocError>
-    ensures { IfOk result (λ members. members ≡ filter (λ (m : ℕ × AnyMark). is_member_of label m.1) marks.now) }
+    ensures { IfOk result (λ members. members
+        ≡ filter (λ (m : ℕ × AnyMark). is_member_of label m.1) marks.now) }
 {
     let mut members = Marks::new(alloc);
     for mark in marks {

@@ -1,6 +1,7 @@
 //! The receipt of an accepted batch.
 ghost use Rattle.std.specs.Prelude.{◌≡◌, ◌++◌, codes, count_by, IfOk, OnOk};
-ghost use Rattle.warehouse_core.specs.Receipts.{is_insertion, is_deletion, events_like, batch_text, growth_text, decline_text};
+ghost use Rattle.warehouse_core.specs.Receipts.{is_insertion, is_deletion, events_like, batch_text};
+ghost use Rattle.warehouse_core.specs.Receipts.{growth_text, decline_text};
 
 use std::alloc::{AllocError, Global};
 use vec_record::{Bytes, Change, Event, Kind};
@@ -83,7 +84,9 @@ pub(crate) fn receipt(
     deletions: usize,
     events: &[Event],
 ) -> Result<Bytes, AllocError>
-    ensures { IfOk result (λ line. line ≡ batch_text batch insertions deletions ++ (growth_text events.now ++ (decline_text events.now ++ codes "\n"))) }
+    ensures { IfOk result (λ line. line
+        ≡ batch_text batch insertions deletions
+        ++ (growth_text events.now ++ (decline_text events.now ++ codes "\n"))) }
 {
     let mut line = Bytes::new(alloc);
     append_batch(&mut line, batch, insertions, deletions)?;

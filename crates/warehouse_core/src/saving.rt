@@ -1,5 +1,6 @@
 //! A batch that is taken in is saved, and its receipt given out.
-ghost use Rattle.std.specs.Prelude.{◌≡◌, ◌≤◌, ◌+◌, ◌++◌, false, Ok, Err, IsTrue, IfOk, IfErr, OnOk, OnErr};
+ghost use Rattle.std.specs.Prelude.{◌≡◌, ◌≤◌, ◌+◌, ◌++◌, false, Ok, Err, IsTrue, IfOk, IfErr, OnOk};
+ghost use Rattle.std.specs.Prelude.{OnErr};
 ghost use Rattle.site_disk.specs.Causes.{Rose};
 ghost use Rattle.page_gate.specs.Promises.{Holds};
 ghost use Rattle.page_layout.specs.Heads.{plain};
@@ -53,7 +54,9 @@ pub(crate) fn save<T: Site>(
     ensures unwritten { result ≡ Err Memory → site.new ≡ site.old }
     ensures fault { result ≡ Err SiteFault → Rose (T.faults site.old) (T.faults site.new) }
     ensures later { T.faults site.old ≤ T.faults site.new }
-    ensures told { IsTrue T.tells → Saves pages.old.list (plain state.old.head).values state.old.records.vectors (state.old.head.batches + 1) pages.new.list result (T.state site.old) (T.state site.new) }
+    ensures told { IsTrue T.tells
+        → Saves pages.old.list (plain state.old.head).values state.old.records.vectors
+        (state.old.head.batches + 1) pages.new.list result (T.state site.old) (T.state site.new) }
 {
     loads_are_stores();
     let text = joined(alloc, out.as_slice(), receipt)?;

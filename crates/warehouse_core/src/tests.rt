@@ -336,7 +336,8 @@ fn count_whole<L: Ledger>(
     Ok(count)
 }
 
-/// Whether a batch over a site that stops ends by a receipt or by a fault, after which all has failed.
+/// Whether a batch over a site that stops ends by a receipt or by a fault, after which all has
+/// failed.
 fn ends_well<L: Ledger>(alloc: Global, site: &mut MemSite, steps: &mut Steps<L>) -> bool {
     let Some(mut warehouse) = opened(alloc, site, steps) else {
         return true;

@@ -1,6 +1,8 @@
 //! The warehouse.
 
-ghost use Rattle.std.specs.Prelude.{◌≡◌, ◌≤◌, ◌<◌, ◌⊎◌, ℕ, List, Bool, true, false, [], ◌∷◌, ◌++◌, Ok, Err, None, length, IsTrue, IsOk, IsErr, IfOk, OnOk, OnErr, IfErr, MatchResult};
+ghost use Rattle.std.specs.Prelude.{◌≡◌, ◌≤◌, ◌<◌, ◌⊎◌, ℕ, List, Bool, true, false, [], ◌∷◌, ◌++◌};
+ghost use Rattle.std.specs.Prelude.{Ok, Err, None, length, IsTrue, IsOk, IsErr, IfOk, OnOk, OnErr};
+ghost use Rattle.std.specs.Prelude.{IfErr, MatchResult};
 ghost use Rattle.site_disk.specs.Causes.{Rose};
 ghost use Rattle.page_gate.specs.Promises.{Holds};
 ghost use Rattle.std.specs.List.{AllByRecursion};
@@ -12,7 +14,8 @@ ghost use Rattle.page_layout.specs.Heads.{Values, values_of};
 ghost use Rattle.warehouse_core.specs.Batches.{marks_on};
 ghost use Rattle.warehouse_core.specs.States.{State, LoadsAs};
 ghost use Rattle.warehouse_core.specs.Queries.{mark_on, members_of};
-ghost use Rattle.warehouse_core.specs.Applying.{Accepts, IsRefusedBy, Steps as BatchSteps, due, is_numbered};
+ghost use Rattle.warehouse_core.specs.Applying.{Accepts, IsRefusedBy, Steps as BatchSteps, due};
+ghost use Rattle.warehouse_core.specs.Applying.{is_numbered};
 
 use crate::changing::apply_changes;
 use crate::clustering::cluster;
@@ -59,15 +62,17 @@ impl<M: Metric> Model for Warehouse<M> {
 }
 
 impl<M: Metric> Warehouse<M> {
-    /// A stored warehouse: the records of its pages, with their marks made anew. A refusal other than want
-    /// of memory is the one that the pages have. The metric is to be that of the store.
+    /// A stored warehouse: the records of its pages, with their marks made anew. A refusal other
+    /// than want of memory is the one that the pages have. The metric is to be that of the store.
     pub fn load<L: Ledger>(
         alloc: Global,
         pages: Pages,
         steps: &mut Steps<L>,
     ) -> Result<Warehouse<M>, StoreFault>
         requires kind { (v : Values) → params_in_pages pages.list ≡ Ok v → v.metric ≡ M.KIND }
-        ensures loaded { MatchResult result (λ w. LoadsAs pages.list w.values w.rows w.batches × (w.pages ≡ pages.list) × (w.stored ≡ true) × (w.failed ≡ false)) (λ e. Fails e (load_of pages.list)) }
+        ensures loaded { MatchResult result
+            (λ w. LoadsAs pages.list w.values w.rows w.batches × (w.pages ≡ pages.list)
+            × (w.stored ≡ true) × (w.failed ≡ false)) (λ e. Fails e (load_of pages.list)) }
         ensures counts { steps.old ≤ steps.new }
     {
         let state = store_image::load(alloc, &pages)?;
@@ -85,9 +90,9 @@ impl<M: Metric> Warehouse<M> {
 
     /// Takes a batch of at most 67,108,864 bytes as one step, and appends its receipt to `out`.
     ///
-    /// Refusals other than `SiteFault` and `Memory` are decided before anything is changed, and leave all
-    /// as it was. After those two the warehouse has failed: after `SiteFault` the store has the batch
-    /// wholly or not at all, after `Memory` not at all.
+    /// Refusals other than `SiteFault` and `Memory` are decided before anything is changed, and
+    /// leave all as it was. After those two the warehouse has failed: after `SiteFault` the store
+    /// has the batch wholly or not at all, after `Memory` not at all.
     pub fn apply<T: Site, L: Ledger>(
         &mut self,
         site: &mut T,
@@ -110,7 +115,8 @@ impl<M: Metric> Warehouse<M> {
         ensures site { IfErr result (λ e. is_numbered e ≡ true → site.new ≡ site.old) }
         ensures text { OnErr result (out.new ≡ out.old) }
 
-        // Over a body that a refusal is due to, that one is answered or memory is wanting, and no distance is counted.
+        // Over a body that a refusal is due to, that one is answered or memory is wanting, and no
+        // distance is counted.
         ensures answered { IfErr (due self.old body.now) (λ e. IsRefusedBy e result) }
         ensures uncounted { IsErr (due self.old body.now) → steps.new ≡ steps.old }
         ensures accepted { result ≡ Err Refusal.SiteFault → IsOk (due self.old body.now) }
@@ -120,11 +126,13 @@ impl<M: Metric> Warehouse<M> {
 
         // After the other answers the warehouse has failed.
         ensures failed { IfErr result (λ e. is_numbered e ≡ false → self.new.failed ≡ true) }
-        ensures fault { result ≡ Err Refusal.SiteFault → Rose (T.faults site.old) (T.faults site.new) }
+        ensures fault { result ≡ Err Refusal.SiteFault
+            → Rose (T.faults site.old) (T.faults site.new) }
         ensures later { T.faults site.old ≤ T.faults site.new }
 
         // What a crash leaves at each moment.
-        ensures moments { IsTrue T.tells → BatchSteps body.now result self.old (T.state site.old) (T.state site.new) }
+        ensures moments { IsTrue T.tells
+            → BatchSteps body.now result self.old (T.state site.old) (T.state site.new) }
         ensures counts { steps.old ≤ steps.new }
     {
         loads_are_stores();
@@ -153,18 +161,24 @@ impl<M: Metric> Warehouse<M> {
         requires whole { self.old.failed ≡ false }
         requires ready { IsTrue T.tells → Holds self.old.pages (T.state site.old) }
         requires batches { self.old.batches < 4294967295 }
-        requires fits { AllByRecursion (IsChangeOf (width_of self.old.values.metric self.old.values.dim)) changes }
-        requires spelled { AllByRecursion (IsSpelledChange self.old.values.metric self.old.values.dim) changes }
+        requires fits { AllByRecursion
+            (IsChangeOf (width_of self.old.values.metric self.old.values.dim)) changes }
+        requires spelled { AllByRecursion
+            (IsSpelledChange self.old.values.metric self.old.values.dim) changes }
         requires accepted { IsOk (after self.old.values.cap self.old.rows changes) }
-        ensures ok { OnOk result ((body : List ℕ) → due self.old body ≡ Ok changes → Accepts body self.old self.new out.old out.new) }
+        ensures ok { OnOk result
+            ((body : List ℕ) → due self.old body ≡ Ok changes
+            → Accepts body self.old self.new out.old out.new) }
         ensures ready { IsTrue T.tells → OnOk result (Holds self.new.pages (T.state site.new)) }
         ensures text { OnErr result (out.new ≡ out.old) }
         ensures err { IfErr result (λ e. is_numbered e ≡ false) }
         ensures unwritten { result ≡ Err Refusal.Memory → site.new ≡ site.old }
         ensures failed { OnErr result (self.new.failed ≡ true) }
-        ensures fault { result ≡ Err Refusal.SiteFault → Rose (T.faults site.old) (T.faults site.new) }
+        ensures fault { result ≡ Err Refusal.SiteFault
+            → Rose (T.faults site.old) (T.faults site.new) }
         ensures later { T.faults site.old ≤ T.faults site.new }
-        ensures moments { IsTrue T.tells → (body : List ℕ) → due self.old body ≡ Ok changes → BatchSteps body result self.old (T.state site.old) (T.state site.new) }
+        ensures moments { IsTrue T.tells → (body : List ℕ) → due self.old body ≡ Ok changes
+            → BatchSteps body result self.old (T.state site.old) (T.state site.new) }
         ensures counts { steps.old ≤ steps.new }
     {
         loads_are_stores();
@@ -209,7 +223,8 @@ impl<M: Metric> Warehouse<M> {
     /// The records that are present.
     pub fn records(&self) -> &Records
         ensures vectors { result.now.vectors ≡ self.now.rows }
-        ensures width { self.now.failed ≡ false → result.now.width ≡ width_of self.now.values.metric self.now.values.dim }
+        ensures width { self.now.failed ≡ false → result.now.width
+            ≡ width_of self.now.values.metric self.now.values.dim }
     {
         &self.state.records
     }
@@ -239,7 +254,8 @@ impl<M: Metric> Warehouse<M> {
     /// The cores and borders with a label, by rising number; `None` exactly where no core has it.
     pub fn members(&self, label: Number) -> Result<Option<Marks>, AllocError>
         requires { self.now.failed ≡ false }
-        ensures { IfOk result (λ members. members ≡ members_of label (marks_on self.now.values self.now.rows)) }
+        ensures { IfOk result (λ members. members
+            ≡ members_of label (marks_on self.now.values self.now.rows)) }
     {
         members_of(self.alloc, self.marks.as_slice(), label)
     }

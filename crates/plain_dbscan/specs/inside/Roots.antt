@@ -1,8 +1,9 @@
 -- Trees of places: each place has a parent that is not above it, and a root is its own parent.
-use Rattle.std.specs.Prelude.{◌≡◌, ℕ, zero, suc, ◌<◌, ◌≤◌, List, [], ◌∷◌, length, slice_index}
+use Rattle.std.specs.Prelude.{◌≡◌, ℕ, zero, suc, ◌<◌, ◌≤◌, List, [], ◌∷◌, length, map, slice_index}
 use Rattle.std.specs.List.{range_with_len}
 use Rattle.vec_record.specs.Table.{Table, row_at}
 use Rattle.vec_record.specs.Asked.{near_at}
+use Rattle.plain_dbscan.specs.Marks.{Entries, numbers_of}
 use Rattle.plain_dbscan.specs.Merging.{merged}
 
 -- no parent is above its place
@@ -33,3 +34,21 @@ near_before dist eps t i = near_at dist (row_at t i) t eps (range_with_len 0 i)
 abbrev pub roots_of : (List ℕ → List ℕ → ℕ) → ℕ → Table → ℕ → List ℕ
 roots_of dist eps t zero = range_with_len 0 (length t.rows)
 roots_of dist eps t (suc n) = joined_each n (near_before dist eps t n) (roots_of dist eps t n)
+
+-- the roots once each row is joined with those before it that are near it
+abbrev pub all_roots : (List ℕ → List ℕ → ℕ) → ℕ → Table → List ℕ
+all_roots dist eps t = roots_of dist eps t (length t.rows)
+
+-- this is the root of a place
+abbrev pub IsRootOf : List ℕ → ℕ → ℕ → Type 0
+IsRootOf parents place root =
+    (roots : List ℕ) → AreRoots parents roots → root ≡ slice_index roots place
+
+-- the new parents have the roots that a function makes of those of the old ones
+abbrev pub HaveRoots : List ℕ → List ℕ → (List ℕ → List ℕ) → Type 0
+HaveRoots old new f = (roots : List ℕ) → AreRoots old roots → AreRoots new (f roots)
+
+-- the number of the root of each place
+abbrev pub AreRootNumbers : Entries → List ℕ → List ℕ → Type 0
+AreRootNumbers es parents labels =
+    (roots : List ℕ) → AreRoots parents roots → labels ≡ map (slice_index (numbers_of es)) roots

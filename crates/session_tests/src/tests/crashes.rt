@@ -68,7 +68,8 @@ fn lines_in(said: &[u8]) -> usize {
     said.iter().filter(|byte| **byte == b'\n').count()
 }
 
-/// Whether each image that a crash may leave now holds as many batches as receipts were said, or one more.
+/// Whether each image that a crash may leave now holds as many batches as receipts were said, or
+/// one more.
 fn keeps_batches(rt: &HostRuntime, site: &MemSite) -> Result<bool, AllocError> {
     let said = lines_in(site.said());
     let mut well = true;
@@ -88,7 +89,8 @@ fn is_born(rt: &HostRuntime, image: &[u8], said: &[u8]) -> Result<bool, AllocErr
     Ok(new || (said.is_empty() && status == Status::Blank))
 }
 
-/// Whether each image that a crash may leave of a birth is the new store, or blank with nothing said.
+/// Whether each image that a crash may leave of a birth is the new store, or blank with nothing
+/// said.
 fn bears_well(rt: &HostRuntime, site: &MemSite) -> Result<bool, AllocError> {
     let mut well = true;
     for pick in 0..4u8 {
@@ -140,7 +142,8 @@ fn before(rt: &HostRuntime, is_birth: bool) -> Result<Bytes, AllocError> {
 /// The runs make no more device calls than this.
 const CALLS: u32 = 60;
 
-/// Each call of the device fails in turn, each sync of a commit among them, or the device stops before it.
+/// Each call of the device fails in turn, each sync of a commit among them, or the device stops
+/// before it.
 #[test]
 fn broken_off(rt: HostRuntime) -> Result<(), Fail> {
     for is_birth in [false, true] {

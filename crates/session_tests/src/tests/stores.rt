@@ -196,7 +196,8 @@ fn long_lines(rt: HostRuntime) -> Result<(), Fail> {
 const LINE_FEEDS: &[u8; 64] =
     b"\n\n\n\n\n\n\n\n\n\n\n\n\n\n\n\n\n\n\n\n\n\n\n\n\n\n\n\n\n\n\n\n\n\n\n\n\n\n\n\n\n\n\n\n\n\n\n\n\n\n\n\n\n\n\n\n\n\n\n\n\n\n\n\n";
 
-/// What a session of 64 MiB of line feeds, with bytes before and behind them, comes to over a new store.
+/// What a session of 64 MiB of line feeds, with bytes before and behind them, comes to over a new
+/// store.
 fn feed(rt: &HostRuntime, front: &[u8], more: &[u8]) -> Result<(Status, Bytes), AllocError> {
     let alloc = rt.alloc();
     let site = before(rt, true)?;
@@ -206,8 +207,8 @@ fn feed(rt: &HostRuntime, front: &[u8], more: &[u8]) -> Result<(Status, Bytes), 
     run_on_file(rt, "serve", input, site)
 }
 
-/// A session of as many bytes as there may be is read to its end, and one of a byte more is too long. A batch that
-/// is open where the bytes that count end has no answer.
+/// A session of as many bytes as there may be is read to its end, and one of a byte more is too
+/// long. A batch that is open where the bytes that count end has no answer.
 #[test]
 fn longest_sessions(rt: HostRuntime) -> Result<(), Fail> {
     for (front, more, status, said) in [
