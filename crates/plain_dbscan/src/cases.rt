@@ -148,7 +148,7 @@ fn clusters_among(
 }
 
 /// Appends what happened to a cluster with a new core, given its old labels.
-fn push_growth(label: Number, old: &[Number], out: &mut Events) -> Result<(), AllocError>
+pub fn push_growth(label: Number, old: &[Number], out: &mut Events) -> Result<(), AllocError>
     ensures ok { OnOk result (out.new ≡ out.old ++ growth label old.now) }
 {
     if old.is_empty() {
@@ -174,7 +174,7 @@ fn push_growth(label: Number, old: &[Number], out: &mut Events) -> Result<(), Al
 }
 
 /// Appends what happened to a cluster with a lost core, given its new labels.
-fn push_decline(label: Number, new: &[Number], out: &mut Events) -> Result<(), AllocError>
+pub fn push_decline(label: Number, new: &[Number], out: &mut Events) -> Result<(), AllocError>
     ensures ok { OnOk result (out.new ≡ out.old ++ decline label new.now) }
 {
     if new.is_empty() {
