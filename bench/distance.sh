@@ -1,7 +1,8 @@
 #!/bin/sh
-# Nanoseconds per distance of each metric, beside plain loops in C at -O3, in one run.
+# Nanoseconds per distance of each metric, beside C at -O3 with the instructions of the same processor, in one run:
+# the sum by `psadbw`, the maximum by `pmaxub`, the bits by words of 8 bytes.
 # Both sides measure the same pairs of 64 vectors, for the same processor, and their totals must agree.
-# Wants rt and clang. It works in a temporary folder and leaves nothing behind.
+# Wants rt and clang. It works in a temporary folder and leaves nothing behind. The least of five runs each.
 set -eu
 root=$(cd "$(dirname "$0")/.." && pwd)
 work=$(mktemp -d)
@@ -105,31 +106,58 @@ RATTLE
 } >"$program/proofs/main/Invariants.antt"
 
 cat >"$work/plain.c" <<'PLAIN'
+#include <emmintrin.h>
 #include <stdint.h>
 #include <stdio.h>
 #include <stdlib.h>
+#include <string.h>
 #include <time.h>
 
 typedef struct { uint8_t *bytes; size_t length; } Vector;
 
-static uint32_t l1(const uint8_t *a, const uint8_t *b, size_t n) {
-    uint32_t total = 0;
-    for (size_t i = 0; i < n; i++) total += abs((int)a[i] - (int)b[i]);
+/* Each as an expert would write it for this processor: sums by its instruction, bits by words of 8 bytes. */
+static inline __m128i load16(const uint8_t *a) { return _mm_loadu_si128((const __m128i *)a); }
+static inline __m128i load8(const uint8_t *a) { return _mm_loadl_epi64((const __m128i *)a); }
+
+static inline uint32_t l1(const uint8_t *a, const uint8_t *b, size_t n) {
+    __m128i sum = _mm_setzero_si128();
+    size_t i = 0;
+    for (; i + 16 <= n; i += 16) sum = _mm_add_epi64(sum, _mm_sad_epu8(load16(a + i), load16(b + i)));
+    for (; i + 8 <= n; i += 8) sum = _mm_add_epi64(sum, _mm_sad_epu8(load8(a + i), load8(b + i)));
+    uint32_t total = _mm_cvtsi128_si32(sum) + _mm_cvtsi128_si32(_mm_srli_si128(sum, 8));
+    for (; i < n; i++) total += abs((int)a[i] - (int)b[i]);
     return total;
 }
 
-static uint32_t max(const uint8_t *a, const uint8_t *b, size_t n) {
-    uint8_t most = 0;
-    for (size_t i = 0; i < n; i++) {
-        uint8_t apart = a[i] > b[i] ? a[i] - b[i] : b[i] - a[i];
-        if (apart > most) most = apart;
+static inline __m128i apart(__m128i a, __m128i b) { return _mm_or_si128(_mm_subs_epu8(a, b), _mm_subs_epu8(b, a)); }
+
+static inline uint32_t max(const uint8_t *a, const uint8_t *b, size_t n) {
+    __m128i all = _mm_setzero_si128();
+    size_t i = 0;
+    for (; i + 16 <= n; i += 16) all = _mm_max_epu8(all, apart(load16(a + i), load16(b + i)));
+    for (; i + 8 <= n; i += 8) all = _mm_max_epu8(all, apart(load8(a + i), load8(b + i)));
+    all = _mm_max_epu8(all, _mm_srli_si128(all, 8));
+    all = _mm_max_epu8(all, _mm_srli_si128(all, 4));
+    all = _mm_max_epu8(all, _mm_srli_si128(all, 2));
+    all = _mm_max_epu8(all, _mm_srli_si128(all, 1));
+    uint8_t most = _mm_cvtsi128_si32(all);
+    for (; i < n; i++) {
+        uint8_t one = abs((int)a[i] - (int)b[i]);
+        if (one > most) most = one;
     }
     return most;
 }
 
-static uint32_t hamming(const uint8_t *a, const uint8_t *b, size_t n) {
+static inline uint32_t hamming(const uint8_t *a, const uint8_t *b, size_t n) {
     uint32_t total = 0;
-    for (size_t i = 0; i < n; i++) total += __builtin_popcount(a[i] ^ b[i]);
+    size_t i = 0;
+    for (; i + 8 <= n; i += 8) {
+        uint64_t x, y;
+        memcpy(&x, a + i, 8);
+        memcpy(&y, b + i, 8);
+        total += __builtin_popcountll(x ^ y);
+    }
+    for (; i < n; i++) total += __builtin_popcount(a[i] ^ b[i]);
     return total;
 }
 
@@ -171,12 +199,21 @@ int main(void) {
 PLAIN
 
 (cd "$program" && rt run) >"$work/log" 2>&1 || { tail -40 "$work/log"; exit 1; }
-grep -E '^(l1|max|hamming) [0-9]+ [0-9]+ [0-9]+ [0-9]+$' "$work/log" >"$work/here"
 clang -O3 -march=x86-64-v2 -o "$work/plain" "$work/plain.c"
-"$work/plain" >"$work/there"
+for run in 1 2 3 4 5; do
+    "$program/out/distance_speed" >>"$work/here"
+    "$work/plain" >>"$work/there"
+done
 
-paste -d ' ' "$work/here" "$work/there" | awk '
-    BEGIN { printf "%-8s %5s %10s %10s %6s\n", "metric", "bytes", "here ns", "C ns", "ratio" }
-    $5 != $10 { print "the totals differ at " $1 " " $2; wrong = 1 }
-    { printf "%-8s %5d %10.1f %10.1f %6.2f\n", $1, $2, $4 / $3, $9 / $8, ($4 / $3) / ($9 / $8) }
-    END { exit wrong }'
+awk '
+    FNR == NR { key = $1 " " $2; if (!(key in here)) order[++n] = key; if (!(key in here) || $4 / $3 < here[key]) here[key] = $4 / $3; sum[key] = $5; next }
+    { key = $1 " " $2; if (!(key in there) || $4 / $3 < there[key]) there[key] = $4 / $3 }
+    sum[key] != $5 { print "the totals differ at " key; wrong = 1 }
+    END {
+        printf "%-8s %5s %10s %10s %6s\n", "metric", "bytes", "here ns", "C ns", "ratio"
+        for (i = 1; i <= n; i++) {
+            split(order[i], part, " ")
+            printf "%-8s %5d %10.1f %10.1f %6.2f\n", part[1], part[2], here[order[i]], there[order[i]], here[order[i]] / there[order[i]]
+        }
+        exit wrong
+    }' "$work/here" "$work/there"

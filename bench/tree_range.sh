@@ -161,7 +161,6 @@ ghosts-measured a = record { name = a.blank.name; parts = a.blank.parts }
 ANTT
 
 cat >>"$work/plain.c" <<'PLAIN'
-#include <emmintrin.h>
 #include <string.h>
 
 /* The form of the tree's leaves: three lists, the rows behind one another. */

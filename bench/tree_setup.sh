@@ -136,6 +136,7 @@ ghosts-insert_all a = record { name = a.blank.name; parts = a.blank.parts }
 ANTT
 
 cat >"$work/plain.c" <<'PLAIN'
+#include <emmintrin.h>
 #include <stdint.h>
 #include <stdio.h>
 #include <stdlib.h>
@@ -147,10 +148,12 @@ static double now(void) {
     return t.tv_sec * 1e9 + t.tv_nsec;
 }
 
-static uint32_t l1(const uint8_t *a, const uint8_t *b, size_t n) {
-    uint32_t total = 0;
-    for (size_t i = 0; i < n; i++) total += abs((int)a[i] - (int)b[i]);
-    return total;
+/* The sum by the processor's instruction, 8 bytes at a time; a width is a multiple of 8 here. */
+static inline uint32_t l1(const uint8_t *a, const uint8_t *b, size_t n) {
+    __m128i sum = _mm_setzero_si128();
+    for (size_t i = 0; i < n; i += 8)
+        sum = _mm_add_epi64(sum, _mm_sad_epu8(_mm_loadl_epi64((const __m128i *)(a + i)), _mm_loadl_epi64((const __m128i *)(b + i))));
+    return _mm_cvtsi128_si32(sum);
 }
 
 static uint8_t **vectors(uint32_t width, uint32_t count) {

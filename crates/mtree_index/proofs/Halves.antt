@@ -1,5 +1,6 @@
 -- The halves of a split, put together.
 use Rattle.std.proofs.Common.{◌≡◌, ℕ, zero, suc, ◌<◌, true, false, List, [], ◌∷◌, length, map, get_or, refl, sym, ap, ◌∙◌, arith}
+use Rattle.std.specs.List.{AllByRecursion}
 use Rattle.mtree_split.specs.declared.pair.Parting.{Parting}
 use Rattle.mtree_split.specs.Choice.{choice}
 use Rattle.mtree_index.specs.declared.split.Half.{Half}
@@ -10,6 +11,11 @@ module _ {A : Type 0} where
   index_map f [] i x d l g = absurd (omega (arith, l))
   index_map f (e ∷ es) zero x d l g = ap f (sym g)
   index_map f (e ∷ es) (suc i) x d l g = index_map f es i x d (omega (arith, l)) g
+
+  pub objects_of : (object : A → List ℕ) (width : ℕ) (es : List A) (i : ℕ) → AllByRecursion (λ e. length (object e) ≡ width) es → i < length es → length (get_or (map object es) i []) ≡ width
+  objects_of object width [] i all l = absurd (omega (arith, l))
+  objects_of object width (e ∷ es) zero all l = all.0
+  objects_of object width (e ∷ es) (suc i) all l = objects_of object width es i all.1 (omega (arith, l))
 
   module _ (dist : List ℕ → List ℕ → ℕ) (greatest : ℕ) (object : A → List ℕ) (radius : A → ℕ) (set : ℕ → A → A) (es : List A) where
     pub parting_is : (p : Parting) (n : ℕ) (m r : List ℕ) (most : ℕ) → p ≡ choice n m r most → n ≡ length es → m ≡ distances dist (map object es) → r ≡ map radius es → most ≡ greatest

@@ -25,3 +25,4 @@ pub mod Small
 pub mod Opening
 pub mod Found
 mod Shapes
+pub mod Twice

@@ -35,6 +35,15 @@ module _ (dist : List ℕ → List ℕ → ℕ) where
         let e : suc i * length os ≡ length (row dist x os) + i * length os = omega (arith, length-row x os, add-mul 1 i (length os)) in
         rw e (drop-append-add (row dist x os) (rows xs) (i * length os) ∙ drop_rows xs i)
 
+    -- so long are some of the rows, and so they are cut
+    pub rows_length : (xs : List (List ℕ)) → length (flat_map (λ o. row dist o os) xs) ≡ length xs * length os
+    unfolding rows
+    rows_length xs = length_rows xs
+
+    pub rows_from : (xs : List (List ℕ)) (i : ℕ) → drop (i * length os) (flat_map (λ o. row dist o os) xs) ≡ flat_map (λ o. row dist o os) (drop i xs)
+    unfolding rows
+    rows_from xs i = drop_rows xs i
+
     pub length-distances : length (distances dist os) ≡ length os * length os
     unfolding rows
     length-distances = length_rows os

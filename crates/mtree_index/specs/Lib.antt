@@ -10,3 +10,4 @@ pub mod Removal
 pub mod Shrinking
 pub mod Joinable
 pub mod Laws
+pub mod inside

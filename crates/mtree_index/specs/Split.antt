@@ -1,4 +1,5 @@
--- The split of a node that has too many entries. Entries of both kinds are split alike: each has an object and a radius, and can be given another parent distance.
+-- The split of a node that has too many entries. Entries of both kinds are split alike: each has an
+-- object and a radius, and can be given another parent distance.
 use Rattle.std.specs.Prelude.{ℕ, if◌then◌else◌, Bool, true, false, List, [], ◌∷◌, length, map, slice_index_or}
 use Rattle.std.specs.List.{flat_map}
 use Rattle.mtree_split.specs.declared.pair.Parting.{Parting}
@@ -10,7 +11,8 @@ use Rattle.mtree_index.specs.declared.split.Half.{Half}
 abbrev pub on_side : {A : Type 0} → Bool → List Bool → List A → List A
 on_side side [] es = []
 on_side side (went_right ∷ sides) [] = []
-on_side side (went_right ∷ sides) (e ∷ es) = if is_on side went_right then e ∷ on_side side sides es else on_side side sides es
+on_side side (went_right ∷ sides) (e ∷ es) =
+    if is_on side went_right then e ∷ on_side side sides es else on_side side sides es
 
 -- the entries with these parent distances
 abbrev pub with_parents : {A : Type 0} → (ℕ → A → A) → List ℕ → List A → List A
@@ -27,7 +29,12 @@ module _ (dist : List ℕ → List ℕ → ℕ) where
   abbrev pub distances : List (List ℕ) → List ℕ
   distances objects = flat_map (λ object. row object objects) objects
 
-  module _ (greatest : ℕ) {A : Type 0} (object : A → List ℕ) (radius : A → ℕ) (with_parent : ℕ → A → A) where
+  module _
+      (greatest : ℕ)
+      {A : Type 0}
+      (object : A → List ℕ)
+      (radius : A → ℕ)
+      (with_parent : ℕ → A → A) where
     -- the pair that is promoted, and the sides and radii of its balanced parting
     abbrev pub parting : List A → Parting
     parting es = choice (length es) (distances (map object es)) (map radius es) greatest
@@ -37,7 +44,8 @@ module _ (dist : List ℕ → List ℕ → ℕ) where
     half side promoted reach sides es = record {
       object = slice_index_or (map object es) promoted [];
       radius = reach;
-      entries = on_side side sides (with_parents with_parent (row (slice_index_or (map object es) promoted []) (map object es)) es);
+      entries = on_side side sides (with_parents with_parent
+          (row (slice_index_or (map object es) promoted []) (map object es)) es);
     }
 
     -- the half under the pair's first entry

@@ -1,7 +1,7 @@
 //! Trees that `tools/tree_cases.py` computes from the rules, apart from the program.
 
-/// A tree in a run of removals: the last number that was removed, the height, and the length and a digest of the
-/// tree's list.
+/// A tree in a run of removals: the last number that was removed, the height, and the length and a
+/// digest of the tree's list.
 pub type Row = (u32, u32, usize, u32);
 
 // The tree of 400 vectors.

@@ -1,12 +1,14 @@
 //! A node that is left with too few entries joins its sibling.
 
-ghost use Rattle.std.specs.Prelude.{◌≡◌, ℕ, ◌+◌, ◌-◌, ◌*◌, ◌<◌, ◌≤◌, ◌++◌, List, length, slice_get, min, IfOk, OnOk, Some, None};
+ghost use Rattle.std.specs.Prelude.{◌≡◌, ℕ, ◌+◌, ◌-◌, ◌*◌, ◌<◌, ◌≤◌, ◌++◌, List, length, slice_get};
+ghost use Rattle.std.specs.Prelude.{min, IfOk, OnOk, Some, None};
 ghost use Rattle.std.specs.List.{AllByRecursion};
 ghost use Rattle.std.specs.Option.{option_copied};
 ghost use Rattle.vec_record.specs.Vectors.{IsWidth};
 ghost use Rattle.mtree_node.specs.declared.node.InnerEntry.{out-InnerEntry, roll-InnerEntry};
 ghost use Rattle.mtree_node.specs.Lists.{HaveVectorsOf};
-ghost use Rattle.mtree_index.specs.Insertion.{HasWidth, outcome, entries_of, settled_leaf, settled_inner};
+ghost use Rattle.mtree_index.specs.Insertion.{HasWidth, outcome, entries_of, settled_leaf};
+ghost use Rattle.mtree_index.specs.Insertion.{settled_inner};
 ghost use Rattle.mtree_index.specs.Entries.{leaf_with_parent, inner_with_parent};
 ghost use Rattle.mtree_index.specs.Removal.{size, joined_at, joined, refilled, farthest, all_under};
 ghost use Rattle.mtree_index.specs.Joinable.{IsJoinable, IsJoinableAt};
@@ -46,10 +48,14 @@ fn join_leaves<M: Metric, L: Ledger>(
     requires at_most { length entries.old + length more ≤ 36 }
     requires left { HaveVectorsOf (length object.now) entries.old }
     requires right { HaveVectorsOf (length object.now) more }
-    ensures one { IfOk result (λ pair. pair ≡ None → (settled_leaf M.dist (M.most (length object.now)) tag right_tag (entries.old ++ more) ≡ outcome None (Node.Leaf tag (entries.old ++ more)))
+    ensures one { IfOk result (λ pair. pair ≡ None
+        → (settled_leaf M.dist (M.most (length object.now)) tag right_tag (entries.old ++ more)
+        ≡ outcome None (Node.Leaf tag (entries.old ++ more)))
         × (entries.new ≡ all_under M.dist (λ e. e.vector) leaf_with_parent object.now (entries.old ++ more))
         × (radius.new ≡ min (farthest M.dist (λ e. e.vector) (λ e. 0) object.now (entries.old ++ more)) (M.most (length object.now)))) }
-    ensures two { IfOk result (λ pair. (p : _) → pair ≡ Some p → settled_leaf M.dist (M.most (length object.now)) tag right_tag (entries.old ++ more) ≡ outcome pair (Node.Leaf tag entries.new)) }
+    ensures two { IfOk result (λ pair. (p : _) → pair ≡ Some p
+        → settled_leaf M.dist (M.most (length object.now)) tag right_tag (entries.old ++ more)
+        ≡ outcome pair (Node.Leaf tag entries.new)) }
     ensures objects { IfOk result (HasWidth (length object.now)) }
     ensures counted { steps.new ≤ steps.old + 1332 }
 {
@@ -76,12 +82,18 @@ fn join_inner<M: Metric, L: Ledger>(
 ) -> Result<Option<Pair>, AllocError>
     requires width { IsWidth (length object.now) }
     requires at_most { length entries.old + length more ≤ 36 }
-    requires left { AllByRecursion (λ e. length (out-InnerEntry e).object ≡ length object.now) entries.old }
-    requires right { AllByRecursion (λ e. length (out-InnerEntry e).object ≡ length object.now) more }
-    ensures one { IfOk result (λ pair. pair ≡ None → (settled_inner M.dist (M.most (length object.now)) tag right_tag (entries.old ++ more) ≡ outcome None (Node.Inner tag (entries.old ++ more)))
+    requires left { AllByRecursion (λ e. length (out-InnerEntry e).object ≡ length object.now)
+        entries.old }
+    requires right { AllByRecursion (λ e. length (out-InnerEntry e).object ≡ length object.now)
+        more }
+    ensures one { IfOk result (λ pair. pair ≡ None
+        → (settled_inner M.dist (M.most (length object.now)) tag right_tag (entries.old ++ more)
+        ≡ outcome None (Node.Inner tag (entries.old ++ more)))
         × (entries.new ≡ all_under M.dist (λ e. (out-InnerEntry e).object) inner_with_parent object.now (entries.old ++ more))
         × (radius.new ≡ min (farthest M.dist (λ e. (out-InnerEntry e).object) (λ e. (out-InnerEntry e).radius) object.now (entries.old ++ more)) (M.most (length object.now)))) }
-    ensures two { IfOk result (λ pair. (p : _) → pair ≡ Some p → settled_inner M.dist (M.most (length object.now)) tag right_tag (entries.old ++ more) ≡ outcome pair (Node.Inner tag entries.new)) }
+    ensures two { IfOk result (λ pair. (p : _) → pair ≡ Some p
+        → settled_inner M.dist (M.most (length object.now)) tag right_tag (entries.old ++ more)
+        ≡ outcome pair (Node.Inner tag entries.new)) }
     ensures objects { IfOk result (HasWidth (length object.now)) }
     ensures counted { steps.new ≤ steps.old + 1332 }
 {
@@ -95,8 +107,8 @@ fn join_inner<M: Metric, L: Ledger>(
     Ok(Some(pair))
 }
 
-// Joins the node of an entry with that of its right neighbour. The entry then stands for both, or gives way
-// to the pair.
+// Joins the node of an entry with that of its right neighbour. The entry then stands for both, or
+// gives way to the pair.
 fn join<M: Metric, L: Ledger>(
     alloc: Global,
     left: &mut InnerEntry,
@@ -105,7 +117,8 @@ fn join<M: Metric, L: Ledger>(
 ) -> Result<Option<Pair>, AllocError>
     requires width { IsWidth (length (out-InnerEntry left.old).object) }
     requires joinable { IsJoinable (length (out-InnerEntry left.old).object) left.old right }
-    ensures is { IfOk result (λ pair. (over : _) → entries_of M.dist over pair left.new ≡ joined M.dist (M.most (length (out-InnerEntry left.old).object)) over left.old right) }
+    ensures is { IfOk result (λ pair. (over : _) → entries_of M.dist over pair left.new
+        ≡ joined M.dist (M.most (length (out-InnerEntry left.old).object)) over left.old right) }
     ensures objects { IfOk result (HasWidth (length (out-InnerEntry left.old).object)) }
     ensures counted { steps.new ≤ steps.old + 1332 }
 {
@@ -143,8 +156,10 @@ fn join_at<M: Metric, L: Ledger>(
     requires over { (object : _) → option_copied over ≡ Some object → length object ≡ width }
     requires within { place + 1 < length entries.old }
     requires room { length entries.old ≤ 30 }
-    requires joinable { (left right : _) → slice_get entries.old place ≡ Some left → slice_get entries.old (place + 1) ≡ Some right → IsJoinable width left right }
-    ensures is { OnOk result (entries.new ≡ joined_at place (joined M.dist (M.most width) (option_copied over.entry)) entries.old) }
+    requires joinable { (left right : _) → slice_get entries.old place ≡ Some left
+        → slice_get entries.old (place + 1) ≡ Some right → IsJoinable width left right }
+    ensures is { OnOk result (entries.new
+        ≡ joined_at place (joined M.dist (M.most width) (option_copied over.entry)) entries.old) }
     ensures counted { steps.new ≤ steps.old + 1334 }
 {
     let right = entries.remove(place + 1);
@@ -152,8 +167,8 @@ fn join_at<M: Metric, L: Ledger>(
     put_pair::<M, L>(entries, place, over, pair, steps)
 }
 
-/// Sees to it that the node of the entry at a place, which has lost an entry, has enough: with too few it
-/// joins its left sibling, or its right one where it is the first.
+/// Sees to it that the node of the entry at a place, which has lost an entry, has enough: with too
+/// few it joins its left sibling, or its right one where it is the first.
 pub fn refill<M: Metric, L: Ledger>(
     alloc: Global,
     width: u32,
@@ -168,7 +183,8 @@ pub fn refill<M: Metric, L: Ledger>(
     requires some { 2 ≤ length entries.old }
     requires room { length entries.old ≤ 30 }
     requires joinable { IsJoinableAt width place entries.old }
-    ensures is { OnOk result (entries.new ≡ refilled M.dist (M.most width) (option_copied over.entry) place entries.old) }
+    ensures is { OnOk result (entries.new
+        ≡ refilled M.dist (M.most width) (option_copied over.entry) place entries.old) }
     ensures counted { steps.new ≤ steps.old + 1334 }
 {
     if size(entries.as_slice()[place].child.get()) >= FEWEST {

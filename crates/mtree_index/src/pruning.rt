@@ -18,7 +18,8 @@ pub fn is_skipped(to_object: Option<u32>, reach: u64, parent: u32) -> bool
     }
 }
 
-/// The parent distances that the first pruning test leaves in a leaf: `low`, and so many more behind it.
+/// The parent distances that the first pruning test leaves in a leaf: `low`, and so many more
+/// behind it.
 #[derive(Clone, Copy)]
 pub struct Band {
     low: u32,
@@ -28,7 +29,8 @@ pub struct Band {
 impl Band {
     pub fn new(to_object: Option<u32>, radius: u32) -> Band
         ensures fits { result.low + result.more < 4294967296 }
-        ensures left { (p : ℕ) → p < 4294967296 → is_in result p ≡ not (is_skipped to_object radius p) }
+        ensures left { (p : ℕ) → p < 4294967296 → is_in result p
+            ≡ not (is_skipped to_object radius p) }
     {
         match to_object {
             None => Band {
@@ -54,8 +56,8 @@ impl Band {
     }
 }
 
-/// Writes the places of the parent distances that the first pruning test leaves, and gives how many they
-/// are. It tests without a branch: one for each entry would be guessed wrong too often.
+/// Writes the places of the parent distances that the first pruning test leaves, and gives how
+/// many they are. It tests without a branch: one for each entry would be guessed wrong too often.
 #[inline]
 pub fn left(parents: &[u32], to_object: Option<u32>, radius: u32, places: &mut [u8; GROUP]) -> usize
     requires { length parents.now ≤ 32 }

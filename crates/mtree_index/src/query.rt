@@ -1,6 +1,7 @@
 //! The range query below a node.
 
-ghost use Rattle.std.specs.Prelude.{◌≡◌, ◌+◌, ◌<◌, ◌≤◌, ◌++◌, length, map, slice_index, sum_by, OnOk};
+ghost use Rattle.std.specs.Prelude.{◌≡◌, ◌+◌, ◌<◌, ◌≤◌, ◌++◌, length, map, slice_index, sum_by};
+ghost use Rattle.std.specs.Prelude.{OnOk};
 ghost use Rattle.std.specs.List.{AllByRecursion, flat_map};
 ghost use Rattle.vec_record.specs.Vectors.{IsVector, IsWidth};
 ghost use Rattle.mtree_node.specs.declared.node.InnerEntry.{out-InnerEntry};
@@ -24,10 +25,17 @@ fn look_at_entry<M: Metric, L: Ledger>(
     steps: &mut Steps<L>,
 ) -> Result<(), AllocError>
     requires width { IsWidth (length centre.now) }
-    requires shaped { IsEntryOver (length centre.now) (IsShaped (length centre.now) height) (out-InnerEntry entry.now) }
-    ensures found { OnOk result (out.new.items ≡ out.old.items ++ entry_found M.dist centre.now radius (found M.dist centre.now radius height) to_object (out-InnerEntry entry.now)) }
-    ensures counted { OnOk result (steps.new ≡ steps.old + entry_cost M.dist centre.now radius (cost M.dist centre.now radius height) to_object (out-InnerEntry entry.now)) }
-    ensures at_most { steps.new ≤ steps.old + entry_cost M.dist centre.now radius (cost M.dist centre.now radius height) to_object (out-InnerEntry entry.now) }
+    requires shaped { IsEntryOver (length centre.now) (IsShaped (length centre.now) height)
+        (out-InnerEntry entry.now) }
+    ensures found { OnOk result
+        (out.new.items ≡ out.old.items ++ entry_found M.dist centre.now radius
+        (found M.dist centre.now radius height) to_object (out-InnerEntry entry.now)) }
+    ensures counted { OnOk result
+        (steps.new ≡ steps.old + entry_cost M.dist centre.now radius
+        (cost M.dist centre.now radius height) to_object (out-InnerEntry entry.now)) }
+    ensures at_most { steps.new
+        ≤ steps.old + entry_cost M.dist centre.now radius (cost M.dist centre.now radius height)
+        to_object (out-InnerEntry entry.now) }
 {
     let reach = u64::from(radius) + u64::from(entry.radius);
     if is_skipped(to_object, reach, entry.parent) {
@@ -44,7 +52,8 @@ fn look_at_entry<M: Metric, L: Ledger>(
 // Appends the numbers at the places.
 fn push_numbers(numbers: &[Number], places: &[u8], out: &mut Vec<Number>) -> Result<(), AllocError>
     requires { AllByRecursion (λ k. k < length numbers.now) places.now }
-    ensures { OnOk result (out.new.items ≡ out.old.items ++ map (slice_index numbers.now) places.now) }
+    ensures { OnOk result (out.new.items
+        ≡ out.old.items ++ map (slice_index numbers.now) places.now) }
 {
     for place in places {
         out.push(numbers[usize::from(*place)])?;
@@ -52,7 +61,8 @@ fn push_numbers(numbers: &[Number], places: &[u8], out: &mut Vec<Number>) -> Res
     Ok(())
 }
 
-// First tests all entries, then computes the distances of those that are left, and only then takes memory.
+// First tests all entries, then computes the distances of those that are left, and only then takes
+// memory.
 fn look_at_leaf<M: Metric, L: Ledger>(
     entries: &LeafEntries,
     to_object: Option<u32>,
@@ -63,8 +73,11 @@ fn look_at_leaf<M: Metric, L: Ledger>(
 ) -> Result<(), AllocError>
     requires few { length entries.now ≤ 30 }
     requires vectors { AllByRecursion (λ e. IsVector (length centre.now) e.vector) entries.now }
-    ensures found { OnOk result (out.new.items ≡ out.old.items ++ flat_map (leaf_found M.dist centre.now radius to_object) entries.now) }
-    ensures counted { steps.new ≡ steps.old + sum_by (leaf_cost M.dist centre.now radius to_object) entries.now }
+    ensures found { OnOk result
+        (out.new.items ≡ out.old.items ++ flat_map (leaf_found M.dist centre.now radius to_object)
+        entries.now) }
+    ensures counted { steps.new
+        ≡ steps.old + sum_by (leaf_cost M.dist centre.now radius to_object) entries.now }
 {
     let mut places = [0u8; GROUP];
     let count = left(entries.parents(), to_object, radius, &mut places);
@@ -95,10 +108,20 @@ fn look_at_entries<M: Metric, L: Ledger>(
     steps: &mut Steps<L>,
 ) -> Result<(), AllocError>
     requires width { IsWidth (length centre.now) }
-    requires shaped { AllByRecursion (λ e. IsEntryOver (length centre.now) (IsShaped (length centre.now) height) (out-InnerEntry e)) entries.now }
-    ensures found { OnOk result (out.new.items ≡ out.old.items ++ flat_map (λ e. entry_found M.dist centre.now radius (found M.dist centre.now radius height) to_object (out-InnerEntry e)) entries.now) }
-    ensures counted { OnOk result (steps.new ≡ steps.old + sum_by (λ e. entry_cost M.dist centre.now radius (cost M.dist centre.now radius height) to_object (out-InnerEntry e)) entries.now) }
-    ensures at_most { steps.new ≤ steps.old + sum_by (λ e. entry_cost M.dist centre.now radius (cost M.dist centre.now radius height) to_object (out-InnerEntry e)) entries.now }
+    requires shaped { AllByRecursion
+        (λ e. IsEntryOver (length centre.now) (IsShaped (length centre.now) height)
+        (out-InnerEntry e)) entries.now }
+    ensures found { OnOk result
+        (out.new.items ≡ out.old.items ++ flat_map
+        (λ e. entry_found M.dist centre.now radius (found M.dist centre.now radius height) to_object
+        (out-InnerEntry e)) entries.now) }
+    ensures counted { OnOk result
+        (steps.new ≡ steps.old + sum_by
+        (λ e. entry_cost M.dist centre.now radius (cost M.dist centre.now radius height) to_object
+        (out-InnerEntry e)) entries.now) }
+    ensures at_most { steps.new
+        ≤ steps.old + sum_by (λ e. entry_cost M.dist centre.now radius
+        (cost M.dist centre.now radius height) to_object (out-InnerEntry e)) entries.now }
 {
     for entry in entries {
         look_at_entry::<M, L>(entry, height, to_object, centre, radius, out, steps)?;
@@ -106,8 +129,8 @@ fn look_at_entries<M: Metric, L: Ledger>(
     Ok(())
 }
 
-/// Adds the numbers within the radius of the centre, in the order of the leaves. The node's object is at
-/// the distance `to_object` of the centre; for the root there is none.
+/// Adds the numbers within the radius of the centre, in the order of the leaves. The node's object
+/// is at the distance `to_object` of the centre; for the root there is none.
 #[cycle(search)]
 pub fn search<M: Metric, L: Ledger>(
     node: &Node,
@@ -120,9 +143,13 @@ pub fn search<M: Metric, L: Ledger>(
 ) -> Result<(), AllocError>
     requires width { IsWidth (length centre.now) }
     requires shaped { IsShaped (length centre.now) height node.now }
-    ensures found { OnOk result (out.new.items ≡ out.old.items ++ found M.dist centre.now radius height to_object node.now) }
-    ensures counted { OnOk result (steps.new ≡ steps.old + cost M.dist centre.now radius height to_object node.now) }
-    ensures at_most { steps.new ≤ steps.old + cost M.dist centre.now radius height to_object node.now }
+    ensures found { OnOk result
+        (out.new.items ≡ out.old.items ++ found M.dist centre.now radius height to_object
+        node.now) }
+    ensures counted { OnOk result
+        (steps.new ≡ steps.old + cost M.dist centre.now radius height to_object node.now) }
+    ensures at_most { steps.new
+        ≤ steps.old + cost M.dist centre.now radius height to_object node.now }
 {
     match node {
         Node::Leaf { tag: _, entries } => {

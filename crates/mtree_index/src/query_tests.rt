@@ -1,6 +1,7 @@
 //! Queries against scans, and their costs against those that `tools/tree_cases.py` computes.
 
-ghost use Rattle.std.specs.Prelude.{◌≡◌, ℕ, ◌+◌, ◌≤◌, ◌<◌, min, All, length, slice_get, sum_by, OnOk, IfOk, Some};
+ghost use Rattle.std.specs.Prelude.{◌≡◌, ℕ, ◌+◌, ◌≤◌, ◌<◌, min, All, length, slice_get, sum_by};
+ghost use Rattle.std.specs.Prelude.{OnOk, IfOk, Some};
 ghost use Rattle.std.specs.List.{AllByRecursion};
 ghost use Rattle.vec_record.specs.Vectors.{IsVector, IsWidth};
 ghost use Rattle.mtree_node.specs.declared.node.InnerEntry.{out-InnerEntry};
@@ -38,7 +39,8 @@ fn cost_of_leaf<M: Metric>(
     radius: u32,
 ) -> u32
     requires { at < length entries.now }
-    ensures is { (e : _) → slice_get entries.now at ≡ Some e → result ≡ leaf_cost M.dist centre.now radius to_object e }
+    ensures is { (e : _) → slice_get entries.now at ≡ Some e → result
+        ≡ leaf_cost M.dist centre.now radius to_object e }
     ensures small { result ≤ 1 }
 {
     let _ = centre;
@@ -55,7 +57,8 @@ fn cost_of_leaves<M: Metric>(
     centre: &Vector,
     radius: u32,
 ) -> u32
-    ensures { result ≡ min (sum_by (leaf_cost M.dist centre.now radius to_object) entries.now) 1000000 }
+    ensures { result ≡ min (sum_by (leaf_cost M.dist centre.now radius to_object) entries.now)
+        1000000 }
 {
     let mut total = 0;
     for at in 0..entries.len() {
@@ -75,8 +78,10 @@ fn cost_of_entry<M: Metric, L: Ledger>(
     steps: &mut Steps<L>,
 ) -> u32
     requires width { IsWidth (length centre.now) }
-    requires shaped { IsEntryOver (length centre.now) (IsShaped (length centre.now) height) (out-InnerEntry entry.now) }
-    ensures { result ≡ min (entry_cost M.dist centre.now radius (cost M.dist centre.now radius height) to_object (out-InnerEntry entry.now)) 1000000 }
+    requires shaped { IsEntryOver (length centre.now) (IsShaped (length centre.now) height)
+        (out-InnerEntry entry.now) }
+    ensures { result ≡ min (entry_cost M.dist centre.now radius
+        (cost M.dist centre.now radius height) to_object (out-InnerEntry entry.now)) 1000000 }
 {
     let reach = u64::from(radius) + u64::from(entry.radius);
     if is_skipped(to_object, reach, entry.parent) {
@@ -103,8 +108,12 @@ fn cost_of_entries<M: Metric, L: Ledger>(
     steps: &mut Steps<L>,
 ) -> u32
     requires width { IsWidth (length centre.now) }
-    requires shaped { AllByRecursion (λ e. IsEntryOver (length centre.now) (IsShaped (length centre.now) height) (out-InnerEntry e)) entries.now }
-    ensures { result ≡ min (sum_by (λ e. entry_cost M.dist centre.now radius (cost M.dist centre.now radius height) to_object (out-InnerEntry e)) entries.now) 1000000 }
+    requires shaped { AllByRecursion
+        (λ e. IsEntryOver (length centre.now) (IsShaped (length centre.now) height)
+        (out-InnerEntry e)) entries.now }
+    ensures { result ≡ min (sum_by
+        (λ e. entry_cost M.dist centre.now radius (cost M.dist centre.now radius height) to_object
+        (out-InnerEntry e)) entries.now) 1000000 }
 {
     let mut total = 0;
     for entry in entries {
@@ -165,7 +174,8 @@ fn ask_all<M: Metric, I: RangeIndex<M>, L: Ledger>(
     steps: &mut Steps<L>,
 ) -> Result<(), AllocError>
     requires { All (λ c. length c ≡ I.width index.now) centres.now }
-    ensures counted { OnOk result (steps.new ≡ steps.old + sum_by (λ c. I.cost index.now c eps) centres.now) }
+    ensures counted { OnOk result
+        (steps.new ≡ steps.old + sum_by (λ c. I.cost index.now c eps) centres.now) }
     ensures at_most { steps.new ≤ steps.old + sum_by (λ c. I.cost index.now c eps) centres.now }
 {
     for centre in centres {

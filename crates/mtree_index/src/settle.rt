@@ -1,13 +1,15 @@
 //! A node with too many entries is split, and the two halves take the place of its entry.
 
-ghost use Rattle.std.specs.Prelude.{◌≡◌, ℕ, ◌+◌, ◌*◌, ◌<◌, ◌≤◌, length, slice_get, IfOk, OnOk, Some};
+ghost use Rattle.std.specs.Prelude.{◌≡◌, ℕ, ◌+◌, ◌*◌, ◌<◌, ◌≤◌, length, slice_get, IfOk, OnOk};
+ghost use Rattle.std.specs.Prelude.{Some};
 ghost use Rattle.std.specs.List.{AllByRecursion};
 ghost use Rattle.std.specs.Option.{option_copied};
 ghost use Rattle.vec_record.specs.Vectors.{IsWidth};
 ghost use Rattle.mtree_node.specs.declared.node.InnerEntry.{out-InnerEntry, roll-InnerEntry};
 ghost use Rattle.mtree_node.specs.Lists.{HaveVectorsOf};
 ghost use Rattle.mtree_node.specs.Tree.{parent_distance};
-ghost use Rattle.mtree_index.specs.Insertion.{entry_of, outcome, HasWidth, settled_leaf, settled_inner, entries_of, placed_under, replaced_at};
+ghost use Rattle.mtree_index.specs.Insertion.{entry_of, outcome, HasWidth, settled_leaf};
+ghost use Rattle.mtree_index.specs.Insertion.{settled_inner, entries_of, placed_under, replaced_at};
 
 use crate::split::{Half, split};
 use items::{Boxed, Items};
@@ -34,7 +36,8 @@ pub fn distance_from<M: Metric, L: Ledger>(
     steps: &mut Steps<L>,
 ) -> u32
     requires width { IsWidth (length vector.now) }
-    requires same { (object : _) → option_copied over ≡ Some object → length object ≡ length vector.now }
+    requires same { (object : _) → option_copied over ≡ Some object →
+        length object ≡ length vector.now }
     ensures value { result ≡ parent_distance M.dist (option_copied over.entry) vector.now }
     ensures counted { steps.new ≤ steps.old + 1 }
 {
@@ -51,7 +54,8 @@ fn entry_over(
     radius: u32,
     node: Node,
 ) -> Result<InnerEntry, AllocError>
-    ensures { IfOk result (λ e. e ≡ roll-InnerEntry (record { object = object; radius = radius; parent = 0; child = node })) }
+    ensures { IfOk result (λ e. e ≡ roll-InnerEntry
+        (record { object = object; radius = radius; parent = 0; child = node })) }
 {
     Ok(InnerEntry {
         object,
@@ -81,7 +85,9 @@ fn leaf_over(
     entry_over(alloc, object, radius, Node::Leaf { tag, entries })
 }
 
-/// Splits a leaf that has too many entries. The left node keeps the tag, and the right one gets its own.
+/// Splits a leaf that has too many entries. The left node keeps the tag, and the right one gets
+/// its own.
+#[tactic(auto, using(crate::proofs::Twice::few_pairs))]
 pub fn settle_leaf<M: Metric, L: Ledger>(
     alloc: Global,
     width: u32,
@@ -93,7 +99,8 @@ pub fn settle_leaf<M: Metric, L: Ledger>(
     requires width { IsWidth width }
     requires vectors { HaveVectorsOf width entries.now }
     requires at_most { length entries.now ≤ 36 }
-    ensures is { IfOk result (λ pair. outcome pair (Node.Leaf tag entries.now) ≡ settled_leaf M.dist (M.most width) tag right_tag entries.now) }
+    ensures is { IfOk result (λ pair. outcome pair (Node.Leaf tag entries.now) ≡
+        settled_leaf M.dist (M.most width) tag right_tag entries.now) }
     ensures objects { IfOk result (HasWidth width) }
     ensures counted { steps.new ≤ steps.old + 1296 }
 {
@@ -107,7 +114,9 @@ pub fn settle_leaf<M: Metric, L: Ledger>(
     Ok(Some(Pair { left, right }))
 }
 
-/// Splits an inner node that has too many entries. The left node keeps the tag, and the right one gets its own.
+/// Splits an inner node that has too many entries. The left node keeps the tag, and the right one
+/// gets its own.
+#[tactic(auto, using(crate::proofs::Twice::few_pairs))]
 pub fn settle_inner<M: Metric, L: Ledger>(
     alloc: Global,
     width: u32,
@@ -119,7 +128,8 @@ pub fn settle_inner<M: Metric, L: Ledger>(
     requires width { IsWidth width }
     requires vectors { AllByRecursion (λ e. length (out-InnerEntry e).object ≡ width) entries.old }
     requires at_most { length entries.old ≤ 36 }
-    ensures is { IfOk result (λ pair. outcome pair (Node.Inner tag entries.new) ≡ settled_inner M.dist (M.most width) tag right_tag entries.old) }
+    ensures is { IfOk result (λ pair. outcome pair (Node.Inner tag entries.new) ≡
+        settled_inner M.dist (M.most width) tag right_tag entries.old) }
     ensures objects { IfOk result (HasWidth width) }
     ensures counted { steps.new ≤ steps.old + 1296 }
 {
@@ -151,8 +161,8 @@ pub fn settle_inner<M: Metric, L: Ledger>(
     Ok(Some(Pair { left, right }))
 }
 
-// The entries that stand for the node below the entry at a place: the pair in place of that entry, if
-// there is one.
+// The entries that stand for the node below the entry at a place: the pair in place of that entry,
+// if there is one.
 pub fn put_pair<M: Metric, L: Ledger>(
     entries: &mut Items<InnerEntry>,
     place: usize,
@@ -162,8 +172,10 @@ pub fn put_pair<M: Metric, L: Ledger>(
 ) -> Result<(), AllocError>
     requires within { place < length entries.old }
     requires room { length entries.old ≤ 30 }
-    requires widths { (width : ℕ) × IsWidth width × HasWidth width pair × ((object : _) → option_copied over ≡ Some object → length object ≡ width) }
-    ensures is { OnOk result ((e : _) → slice_get entries.old place ≡ Some e → entries.new ≡ replaced_at place (λ _. entries_of M.dist (option_copied over.entry) pair e) entries.old) }
+    requires widths { (width : ℕ) × IsWidth width × HasWidth width pair ×
+        ((object : _) → option_copied over ≡ Some object → length object ≡ width) }
+    ensures is { OnOk result ((e : _) → slice_get entries.old place ≡ Some e → entries.new ≡
+        replaced_at place (λ _. entries_of M.dist (option_copied over.entry) pair e) entries.old) }
     ensures counted { steps.new ≤ steps.old + 2 }
 {
     let Some(Pair { left, right }) = pair else {
@@ -181,7 +193,8 @@ fn stand_under<M: Metric, L: Ledger>(
     steps: &mut Steps<L>,
 ) -> InnerEntry
     requires width { IsWidth (length (out-InnerEntry entry).object) }
-    requires over { (object : _) → option_copied over ≡ Some object → length object ≡ length (out-InnerEntry entry).object }
+    requires over { (object : _) → option_copied over ≡ Some object →
+        length object ≡ length (out-InnerEntry entry).object }
     ensures is { result ≡ placed_under M.dist (option_copied over.entry) entry }
     ensures counted { steps.new ≤ steps.old + 1 }
 {

@@ -36,8 +36,8 @@ fn grow_both<L: Ledger>(
     Ok((tree, records))
 }
 
-// The tree that is built from the shapes of a tree and its records: that very tree, or nothing where it is
-// empty or has too many nodes.
+// The tree that is built from the shapes of a tree and its records: that very tree, or nothing
+// where it is empty or has too many nodes.
 fn rebuilt<L: Ledger>(
     alloc: Global,
     tree: &MTree<L1>,
@@ -62,9 +62,11 @@ fn rebuilt<L: Ledger>(
     }
 }
 
-// The shapes of a tree's nodes. What the root says of itself is all that the call asks for, whatever the metric.
+// The shapes of a tree's nodes. What the root says of itself is all that the call asks for,
+// whatever the metric.
 fn shapes_of<M: Metric>(alloc: Global, tree: &MTree<M>) -> Result<Shapes, AllocError>
-    ensures { IfOk result (λ shapes. IfSome tree.now.root (λ n. length shapes ≡ size tree.now.height n)) }
+    ensures { IfOk result (λ shapes. IfSome tree.now.root
+        (λ n. length shapes ≡ size tree.now.height n)) }
 {
     let Some(root) = tree.root() else {
         return Ok(Items::new(alloc));

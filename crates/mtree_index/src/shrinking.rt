@@ -1,6 +1,7 @@
 //! The removal from a whole tree, which may lose levels.
 
-ghost use Rattle.std.specs.Prelude.{◌≡◌, ℕ, ◌+◌, ◌*◌, ◌<◌, ◌≤◌, length, None, Some, Ok, IfOk, true, false};
+ghost use Rattle.std.specs.Prelude.{◌≡◌, ℕ, ◌+◌, ◌*◌, ◌<◌, ◌≤◌, length, None, Some, Ok, IfOk, true};
+ghost use Rattle.std.specs.Prelude.{false};
 ghost use Rattle.vec_record.specs.Vectors.{IsWidth};
 ghost use Rattle.mtree_index.specs.Tree.{IsRoot, root_cost};
 ghost use Rattle.mtree_index.specs.Joinable.{given};
@@ -31,7 +32,8 @@ fn as_root(node: Node) -> Node
 // The root and the height after a root has lost entries. It takes no memory.
 fn lowered(node: Node, height: u32) -> (Option<Node>, u32)
     requires { 0 < height }
-    ensures { (width : ℕ) → record { width = width; height = result.1; root = result.0 } ≡ lowered width height node }
+    ensures { (width : ℕ) → record { width = width; height = result.1; root = result.0 }
+        ≡ lowered width height node }
 {
     match node {
         Node::Leaf { tag, entries } => {
@@ -61,9 +63,14 @@ pub fn shrink<M: Metric, L: Ledger>(
 ) -> Result<(bool, Option<Node>, u32), AllocError>
     requires width { IsWidth (length vector.now) }
     requires root { IsRoot M.dist (length vector.now) (M.most (length vector.now)) height root }
-    ensures is { IfOk result (λ x. given x.0 (record { width = length vector.now; height = x.2; root = x.1 }) ≡ shrunk_from M.dist (M.most (length vector.now)) number vector.now (length vector.now) height root) }
-    ensures absent { shrunk_from M.dist (M.most (length vector.now)) number vector.now (length vector.now) height root ≡ None → result ≡ Ok (false, root, height) }
-    ensures counted { steps.new ≤ steps.old + 1400 * height + root_cost M.dist height root vector.now 0 }
+    ensures is { IfOk result (λ x. given x.0
+        (record { width = length vector.now; height = x.2; root = x.1 })
+        ≡ shrunk_from M.dist (M.most (length vector.now)) number vector.now (length vector.now)
+        height root) }
+    ensures absent { shrunk_from M.dist (M.most (length vector.now)) number vector.now
+        (length vector.now) height root ≡ None → result ≡ Ok (false, root, height) }
+    ensures counted { steps.new
+        ≤ steps.old + 1400 * height + root_cost M.dist height root vector.now 0 }
 {
     let Some(mut node) = root else {
         return Ok((false, None, 0));

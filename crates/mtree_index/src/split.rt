@@ -1,10 +1,13 @@
 //! The split of a list of entries into two halves, each under one of their objects.
 
-ghost use Rattle.std.specs.Prelude.{◌≡◌, ℕ, ◌+◌, ◌*◌, ◌<◌, ◌≤◌, ◌++◌, length, map, slice_index, slice_index_or, IfOk, OnOk, [], ◌∷◌, true, false};
+ghost use Rattle.std.specs.Prelude.{◌≡◌, ℕ, ◌+◌, ◌*◌, ◌<◌, ◌≤◌, ◌++◌, length, map, slice_index};
+ghost use Rattle.std.specs.Prelude.{slice_index_or, IfOk, OnOk, [], ◌∷◌, true, false};
 ghost use Rattle.std.specs.List.{AllByRecursion};
 ghost use Rattle.vec_record.specs.Vectors.{IsWidth};
 ghost use Rattle.mtree_split.specs.Choice.{row_of};
-ghost use Rattle.mtree_index.specs.Split.{row, distances, parting, half, left_half, right_half, on_side, with_parents};
+ghost use Rattle.mtree_index.specs.inside.Pairs.{pairs, with_known};
+ghost use Rattle.mtree_index.specs.Split.{row, distances, parting, half, left_half, right_half};
+ghost use Rattle.mtree_index.specs.Split.{on_side, with_parents};
 
 use crate::entry::Entry;
 use items::Items;
@@ -30,7 +33,8 @@ fn push_row<M: Metric, E: Entry, L: Ledger>(
 ) -> Result<(), AllocError>
     requires width { IsWidth (length object.now) }
     requires vectors { AllByRecursion (λ e. length (E.object e) ≡ length object.now) entries.now }
-    ensures row { OnOk result (matrix.new.items ≡ matrix.old.items ++ row M.dist object.now (map E.object entries.now)) }
+    ensures row { OnOk result
+        (matrix.new.items ≡ matrix.old.items ++ row M.dist object.now (map E.object entries.now)) }
     ensures counted { steps.new ≤ steps.old + length entries.now }
 {
     for entry in entries {
@@ -39,7 +43,22 @@ fn push_row<M: Metric, E: Entry, L: Ledger>(
     Ok(())
 }
 
-// The distances between the entries, row by row.
+// Begins the row of the entry at a place: the distances to the entries before it stand in their
+// rows, and to itself it has none.
+fn push_known(count: usize, at: usize, matrix: &mut Vec<u32>) -> Result<(), AllocError>
+    requires rows { length matrix.old.items ≡ at * count }
+    requires place { at < count }
+    requires few { count ≤ 36 }
+    ensures { OnOk result (matrix.new.items ≡ with_known count at matrix.old.items) }
+{
+    for earlier in 0..at {
+        matrix.push(matrix[earlier * count + at])?;
+    }
+    matrix.push(0)?;
+    Ok(())
+}
+
+// The distances between the entries, row by row. Each is computed once.
 fn distances<M: Metric, E: Entry, L: Ledger>(
     alloc: Global,
     width: u32,
@@ -48,13 +67,18 @@ fn distances<M: Metric, E: Entry, L: Ledger>(
 ) -> Result<Vec<u32>, AllocError>
     requires width { IsWidth width }
     requires vectors { AllByRecursion (λ e. length (E.object e) ≡ width) entries.now }
+    requires at_most { length entries.now ≤ 36 }
     ensures matrix { IfOk result (λ m. m.items ≡ distances M.dist (map E.object entries.now)) }
-    ensures counted { steps.new ≤ steps.old + length entries.now * length entries.now }
+    ensures counted { steps.new ≤ steps.old + pairs (length entries.now) }
 {
     let _ = width;
     let mut matrix = Vec::new(alloc);
-    for entry in entries {
-        push_row::<M, E, L>(entry.object(), entries, &mut matrix, steps)?;
+    for at in 0..entries.len() {
+        let object = entries[at].object();
+        // The distances of bytes are symmetric.
+        let _ = object.as_slice();
+        push_known(entries.len(), at, &mut matrix)?;
+        push_row::<M, E, L>(object, &entries[at + 1..], &mut matrix, steps)?;
     }
     Ok(matrix)
 }
@@ -91,8 +115,10 @@ fn share_out<E: Entry>(
     requires sides { length entries.items ≤ length sides.now }
     requires left_row { length left_row.now ≡ length entries.items }
     requires right_row { length right_row.now ≡ length entries.items }
-    ensures left { IfOk result (λ p. p.0 ≡ on_side false sides.now (with_parents E.with_parent left_row.now entries.items)) }
-    ensures right { IfOk result (λ p. p.1 ≡ on_side true sides.now (with_parents E.with_parent right_row.now entries.items)) }
+    ensures left { IfOk result (λ p.
+        p.0 ≡ on_side false sides.now (with_parents E.with_parent left_row.now entries.items)) }
+    ensures right { IfOk result (λ p.
+        p.1 ≡ on_side true sides.now (with_parents E.with_parent right_row.now entries.items)) }
 {
     let mut left = Items::new(alloc);
     let mut right = Items::new(alloc);
@@ -118,7 +144,8 @@ fn object_at<E: Entry>(entries: &[E], place: usize) -> Result<Vector, AllocError
     entries[place].object().copy()
 }
 
-/// Splits the entries of a node that has too many: the two halves, each under one of the entries' objects.
+/// Splits the entries of a node that has too many: the two halves, each under one of the entries'
+/// objects.
 pub fn split<M: Metric, E: Entry, L: Ledger>(
     alloc: Global,
     width: u32,
@@ -129,10 +156,12 @@ pub fn split<M: Metric, E: Entry, L: Ledger>(
     requires vectors { AllByRecursion (λ e. length (E.object e) ≡ width) entries.items }
     requires at_least { 31 ≤ length entries.items }
     requires at_most { length entries.items ≤ 36 }
-    ensures left { IfOk result (λ p. p.0 ≡ left_half M.dist (M.most width) E.object E.radius E.with_parent entries.items) }
-    ensures right { IfOk result (λ p. p.1 ≡ right_half M.dist (M.most width) E.object E.radius E.with_parent entries.items) }
+    ensures left { IfOk result (λ p. p.0 ≡
+        left_half M.dist (M.most width) E.object E.radius E.with_parent entries.items) }
+    ensures right { IfOk result (λ p. p.1 ≡
+        right_half M.dist (M.most width) E.object E.radius E.with_parent entries.items) }
     ensures objects { IfOk result (λ p. (length p.0.object ≡ width) × (length p.1.object ≡ width)) }
-    ensures counted { steps.new ≤ steps.old + length entries.items * length entries.items }
+    ensures counted { steps.new ≤ steps.old + pairs (length entries.items) }
 {
     let count = entries.len();
     let matrix = distances::<M, E, L>(alloc, width, &entries, steps)?;

@@ -1,4 +1,5 @@
-//! Trees against those that the rules give, which `tools/tree_cases.py` computes apart from the program.
+//! Trees against those that the rules give, which `tools/tree_cases.py` computes apart from the
+//! program.
 
 ghost use Rattle.std.specs.Prelude.{◌≡◌, ℕ, ◌+◌, ◌<◌, ◌≤◌, length, None, OnOk, IfOk};
 ghost use Rattle.std.specs.FinMap as map;
@@ -16,8 +17,9 @@ use std::sync::ledger::{Blank, Ledger};
 use std::test::Fail;
 use vec_record::{Metric, Steps, Vector};
 
-/// The vectors of a test by their numbers, from 1 on. Up to the number `scattered` the coordinates are the
-/// upper five bits of the next numbers of one sequence. All further vectors are equal, with coordinates of 255.
+/// The vectors of a test by their numbers, from 1 on. Up to the number `scattered` the coordinates
+/// are the upper five bits of the next numbers of one sequence. All further vectors are equal,
+/// with coordinates of 255.
 #[derive(Clone, Copy)]
 pub struct Vectors {
     pub width: u32,
@@ -89,7 +91,8 @@ pub fn insert_next<M: Metric, L: Ledger>(
     requires fresh { (q : ℕ) → number ≤ q → map.get (contents tree.old) q ≡ None }
     requires few { map.len (contents tree.old) < number }
     ensures width { tree.new.width ≡ tree.old.width }
-    ensures contents { OnOk result (contents tree.new ≡ map.insert (contents tree.old) number vector.now) }
+    ensures contents { OnOk result
+        (contents tree.new ≡ map.insert (contents tree.old) number vector.now) }
     ensures fresh { OnOk result ((q : ℕ) → number + 1 ≤ q → map.get (contents tree.new) q ≡ None) }
     ensures few { OnOk result (map.len (contents tree.new) < number + 1) }
 {

@@ -42,7 +42,8 @@ pub fn gather<M: Metric, E: Entry, L: Ledger>(
     requires width { IsWidth (length object.now) }
     requires vectors { AllByRecursion (λ e. length (E.object e) ≡ length object.now) entries.old }
     ensures moved { entries.new ≡ all_under M.dist E.object E.with_parent object.now entries.old }
-    ensures radius { result ≡ min (farthest M.dist E.object E.radius object.now entries.old) greatest }
+    ensures radius { result ≡ min (farthest M.dist E.object E.radius object.now entries.old)
+        greatest }
     ensures counted { steps.new ≤ steps.old + length entries.old }
 {
     let mut most = 0u64;
@@ -62,8 +63,10 @@ pub fn gather_leaf<M: Metric, L: Ledger>(
 ) -> Result<u32, AllocError>
     requires width { IsWidth (length object.now) }
     requires vectors { HaveVectorsOf (length object.now) entries.old }
-    ensures moved { OnOk result (entries.new ≡ all_under M.dist (λ e. e.vector) leaf_with_parent object.now entries.old) }
-    ensures radius { IfOk result (λ r. r ≡ min (farthest M.dist (λ e. e.vector) (λ e. 0) object.now entries.old) greatest) }
+    ensures moved { OnOk result
+        (entries.new ≡ all_under M.dist (λ e. e.vector) leaf_with_parent object.now entries.old) }
+    ensures radius { IfOk result
+        (λ r. r ≡ min (farthest M.dist (λ e. e.vector) (λ e. 0) object.now entries.old) greatest) }
     ensures counted { steps.new ≤ steps.old + length entries.old }
 {
     let width = object.as_slice().len() as u32;

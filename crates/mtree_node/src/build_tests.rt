@@ -14,8 +14,8 @@ use std::sync::ledger::{Blank, Ledger};
 use std::test::Fail;
 use vec_record::{Records, Steps, Vector};
 
-// Leaf k of a tree has the numbers 7 * k + 1 to 7 * k + 7, whose vectors are one byte, 0 to 6. Each object
-// is the byte 0 and each radius 6.
+// Leaf k of a tree has the numbers 7 * k + 1 to 7 * k + 7, whose vectors are one byte, 0 to 6.
+// Each object is the byte 0 and each radius 6.
 fn leaf(alloc: Global, place: u32, is_root: bool) -> Result<Shape, AllocError>
     requires { place < 100 }
 {
@@ -154,7 +154,8 @@ fn has_objects_in(shape: &Shape, width: u32, greatest: u32) -> bool
 }
 
 fn rows_have_objects_in(rows: &[(u32, u32, u32, Vector)], width: u32, greatest: u32) -> bool
-    ensures { result ≡ true → AllByRecursion (λ row. (length row.3 ≡ width) × (row.2 ≤ greatest)) rows.now }
+    ensures { result ≡ true → AllByRecursion (λ row. (length row.3 ≡ width) × (row.2 ≤ greatest))
+        rows.now }
 {
     for row in rows {
         if row.3.as_slice().len() != width as usize || row.2 > greatest {
@@ -189,8 +190,8 @@ fn can_be_built(height: u32, shapes: &Shapes, records: &Records) -> bool
         && have_objects_in(all, 1, 255)
 }
 
-// What is built of a tree of a height after changes: its height, or the place that fails. Nothing where the
-// list can't be asked for.
+// What is built of a tree of a height after changes: its height, or the place that fails. Nothing
+// where the list can't be asked for.
 fn built<L: Ledger>(
     rt: &HostRuntime,
     height_given: u32,

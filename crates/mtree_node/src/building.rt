@@ -1,6 +1,7 @@
 //! The walk over a list of shapes, which builds its tree or names the first place where it is none.
 
-ghost use Rattle.std.specs.Prelude.{◌≡◌, ◌↔◌, ℕ, ◌+◌, ◌-◌, ◌*◌, ◌<◌, ◌≤◌, List, Option, length, None, Some, Err, IfOk, OnOk, true, drop};
+ghost use Rattle.std.specs.Prelude.{◌≡◌, ◌↔◌, ℕ, ◌+◌, ◌-◌, ◌*◌, ◌<◌, ◌≤◌, List, Option, length};
+ghost use Rattle.std.specs.Prelude.{None, Some, Err, IfOk, OnOk, true, drop};
 ghost use Rattle.std.specs.List.{AllByRecursion, flat_map};
 ghost use Rattle.std.specs.Option.{option_copied};
 ghost use Rattle.std.specs.FinMap as finite;
@@ -13,8 +14,11 @@ ghost use Rattle.mtree_node.specs.declared.shape.BadPlace.{BadPlace as Place};
 ghost use Rattle.mtree_node.specs.declared.shape.BuildFault.TheVariants.{Bad};
 ghost use Rattle.mtree_node.specs.Lists.{HaveVectorsOf};
 ghost use Rattle.mtree_node.specs.Tree.{leaves, parent_distance, IsNode};
-ghost use Rattle.mtree_node.specs.Walk.{Fails, Builds, bad_place, is_filled, is_of_level, walk_all, walk_leaf_row, walk_inner_row, reaches, walk, first_failing, IsTreeOf, HasObjectsIn, CanBeBuilt};
-ghost use Rattle.mtree_node.specs.Progress.{standing, ahead, IsOver, IsInnerRow, HasVectorsIn, IsWhole, IsPart};
+ghost use Rattle.mtree_node.specs.Walk.{Fails, Builds, bad_place, is_filled, is_of_level, walk_all};
+ghost use Rattle.mtree_node.specs.Walk.{walk_leaf_row, walk_inner_row, reaches, walk};
+ghost use Rattle.mtree_node.specs.Walk.{first_failing, IsTreeOf, HasObjectsIn, CanBeBuilt};
+ghost use Rattle.mtree_node.specs.Progress.{standing, ahead, IsOver, IsInnerRow, HasVectorsIn};
+ghost use Rattle.mtree_node.specs.Progress.{IsWhole, IsPart};
 
 use crate::progress::Progress;
 use crate::{
@@ -85,10 +89,15 @@ fn build_leaf_entry<M: Metric, L: Ledger>(
     ensures fewer { finite.len progress.new.left.vectors ≤ finite.len progress.old.left.vectors }
     ensures vectors { HaveWidth progress.old.left.width progress.new.left.vectors }
     ensures next { progress.new.next ≡ progress.old.next }
-    ensures ok { IfOk result (λ e. (rest : List PlainShape) → walk_leaf_row M.dist place (option_copied over.entry) entry row.now (standing rest progress.old) ≡ Builds e (standing rest progress.new)) }
-    ensures bad { (p : Place) → result ≡ Err (Bad p) → (rest : List PlainShape) → walk_leaf_row M.dist place (option_copied over.entry) entry row.now (standing rest progress.old) ≡ Fails p }
+    ensures ok { IfOk result (λ e. (rest : List PlainShape)
+        → walk_leaf_row M.dist place (option_copied over.entry) entry row.now
+        (standing rest progress.old) ≡ Builds e (standing rest progress.new)) }
+    ensures bad { (p : Place) → result ≡ Err (Bad p) → (rest : List PlainShape)
+        → walk_leaf_row M.dist place (option_copied over.entry) entry row.now
+        (standing rest progress.old) ≡ Fails p }
     ensures vector { IfOk result (λ e. length e.vector ≡ progress.old.left.width) }
-    ensures counted { steps.new + finite.len progress.new.left.vectors ≤ steps.old + finite.len progress.old.left.vectors }
+    ensures counted { steps.new + finite.len progress.new.left.vectors
+        ≤ steps.old + finite.len progress.old.left.vectors }
 {
     let (number, parent) = *row;
     let Some(vector) = progress.left.remove(number) else {
@@ -120,9 +129,14 @@ fn build_leaf<M: Metric, L: Ledger>(
     ensures fewer { finite.len progress.new.left.vectors ≤ finite.len progress.old.left.vectors }
     ensures vectors { HaveWidth progress.old.left.width progress.new.left.vectors }
     ensures next { progress.new.next ≡ progress.old.next }
-    ensures ok { IfOk result (λ es. (rest : List PlainShape) → walk_all (walk_leaf_row M.dist place (option_copied over.entry)) 0 rows.now (standing rest progress.old) ≡ Builds es (standing rest progress.new)) }
-    ensures bad { (p : Place) → result ≡ Err (Bad p) → (rest : List PlainShape) → walk_all (walk_leaf_row M.dist place (option_copied over.entry)) 0 rows.now (standing rest progress.old) ≡ Fails p }
-    ensures counted { steps.new + finite.len progress.new.left.vectors ≤ steps.old + finite.len progress.old.left.vectors }
+    ensures ok { IfOk result (λ es. (rest : List PlainShape)
+        → walk_all (walk_leaf_row M.dist place (option_copied over.entry)) 0 rows.now
+        (standing rest progress.old) ≡ Builds es (standing rest progress.new)) }
+    ensures bad { (p : Place) → result ≡ Err (Bad p) → (rest : List PlainShape)
+        → walk_all (walk_leaf_row M.dist place (option_copied over.entry)) 0 rows.now
+        (standing rest progress.old) ≡ Fails p }
+    ensures counted { steps.new + finite.len progress.new.left.vectors
+        ≤ steps.old + finite.len progress.old.left.vectors }
 {
     let mut entries = LeafEntries::new(alloc);
     for (i, row) in rows.iter().enumerate() {
@@ -162,9 +176,14 @@ fn reaches_below<M: Metric, L: Ledger>(
     steps: &mut Steps<L>,
 ) -> bool
     requires width { IsWidth (length object.now) }
-    requires nodes { AllByRecursion (λ e. (greatest : ℕ) × (over : Option (List ℕ)) × IsNode M.dist (length object.now) greatest level over (out-InnerEntry e).child) entries.now }
-    ensures is { result ≡ reaches M.dist object.now radius (flat_map (λ e. leaves level (out-InnerEntry e).child) entries.now) }
-    ensures counted { steps.new ≤ steps.old + length (flat_map (λ e. leaves level (out-InnerEntry e).child) entries.now) }
+    requires nodes { AllByRecursion
+        (λ e. (greatest : ℕ) × (over : Option (List ℕ))
+        × IsNode M.dist (length object.now) greatest level over (out-InnerEntry e).child)
+        entries.now }
+    ensures is { result ≡ reaches M.dist object.now radius
+        (flat_map (λ e. leaves level (out-InnerEntry e).child) entries.now) }
+    ensures counted { steps.new
+        ≤ steps.old + length (flat_map (λ e. leaves level (out-InnerEntry e).child) entries.now) }
 {
     for entry in entries {
         if !reaches::<M, L>(object, radius, level, entry.child.get(), steps) {
@@ -184,7 +203,8 @@ fn reaches<M: Metric, L: Ledger>(
     steps: &mut Steps<L>,
 ) -> bool
     requires width { IsWidth (length object.now) }
-    requires node { (greatest : ℕ) × (over : Option (List ℕ)) × IsNode M.dist (length object.now) greatest level over node.now }
+    requires node { (greatest : ℕ) × (over : Option (List ℕ))
+        × IsNode M.dist (length object.now) greatest level over node.now }
     ensures is { result ≡ reaches M.dist object.now radius (leaves level node.now) }
     ensures counted { steps.new ≤ steps.old + length (leaves level node.now) }
 {
@@ -196,8 +216,8 @@ fn reaches<M: Metric, L: Ledger>(
     }
 }
 
-// An inner entry of a node at a place, whose object is `over`, none for the root. Its child is on the
-// level.
+// An inner entry of a node at a place, whose object is `over`, none for the root. Its child is on
+// the level.
 #[cycle(build)]
 fn build_inner_entry<M: Metric, L: Ledger>(
     alloc: Global,
@@ -211,7 +231,9 @@ fn build_inner_entry<M: Metric, L: Ledger>(
     steps: &mut Steps<L>,
 ) -> Result<InnerEntry, BuildFault>
     requires few { length shapes.now ≤ 200000 }
-    requires objects { (greatest : ℕ) × AllByRecursion (HasVectorsIn progress.old.left.width greatest) shapes.now × IsInnerRow progress.old.left.width greatest row.now }
+    requires objects { (greatest : ℕ)
+        × AllByRecursion (HasVectorsIn progress.old.left.width greatest) shapes.now
+        × IsInnerRow progress.old.left.width greatest row.now }
     requires level { (1 ≤ level) × (level ≤ 5) }
     requires width { IsWidth progress.old.left.width }
     requires vectors { HaveWidth progress.old.left.width progress.old.left.vectors }
@@ -219,13 +241,25 @@ fn build_inner_entry<M: Metric, L: Ledger>(
     requires next { progress.old.next ≤ length shapes.now }
     ensures width { progress.new.left.width ≡ progress.old.left.width }
     ensures next { progress.new.next ≤ length shapes.now }
-    ensures ok { IfOk result (λ e. walk_inner_row M.dist level (λ object t. walk M.dist level (Some object) t) (leaves level) place (option_copied over.entry) entry row.now (standing (ahead shapes.now progress.old) progress.old) ≡ Builds e (standing (ahead shapes.now progress.new) progress.new)) }
-    ensures bad { (p : Place) → result ≡ Err (Bad p) → walk_inner_row M.dist level (λ object t. walk M.dist level (Some object) t) (leaves level) place (option_copied over.entry) entry row.now (standing (ahead shapes.now progress.old) progress.old) ≡ Fails p }
+    ensures ok { IfOk result (λ e. walk_inner_row M.dist level
+        (λ object t. walk M.dist level (Some object) t) (leaves level) place
+        (option_copied over.entry) entry row.now
+        (standing (ahead shapes.now progress.old) progress.old)
+        ≡ Builds e (standing (ahead shapes.now progress.new) progress.new)) }
+    ensures bad { (p : Place) → result ≡ Err (Bad p)
+        → walk_inner_row M.dist level (λ object t. walk M.dist level (Some object) t) (leaves level)
+        place (option_copied over.entry) entry row.now
+        (standing (ahead shapes.now progress.old) progress.old) ≡ Fails p }
     ensures fewer { finite.len progress.new.left.vectors ≤ finite.len progress.old.left.vectors }
     ensures vectors { OnOk result (HaveWidth progress.new.left.width progress.new.left.vectors) }
-    ensures named { OnOk result (finite.len progress.new.left.vectors + 7 ≤ finite.len progress.old.left.vectors) }
-    ensures whole { OnOk result (IsWhole level (finite.len progress.old.left.vectors - finite.len progress.new.left.vectors) (steps.new - steps.old)) }
-    ensures part { IsPart level (finite.len progress.old.left.vectors - finite.len progress.new.left.vectors) (steps.new - steps.old) }
+    ensures named { OnOk result
+        (finite.len progress.new.left.vectors + 7 ≤ finite.len progress.old.left.vectors) }
+    ensures whole { OnOk result
+        (IsWhole level (finite.len progress.old.left.vectors - finite.len progress.new.left.vectors)
+        (steps.new - steps.old)) }
+    ensures part { IsPart level
+        (finite.len progress.old.left.vectors - finite.len progress.new.left.vectors)
+        (steps.new - steps.old) }
 {
     let (child, parent, radius, object) = row;
     if *parent != parent_distance::<M, L>(over, object, steps) {
@@ -259,7 +293,9 @@ fn build_inner<M: Metric, L: Ledger>(
 ) -> Result<Items<InnerEntry>, BuildFault>
     requires few { length shapes.now ≤ 200000 }
     requires room { length rows.now ≤ 30 }
-    requires objects { (greatest : ℕ) × AllByRecursion (HasVectorsIn progress.old.left.width greatest) shapes.now × AllByRecursion (IsInnerRow progress.old.left.width greatest) rows.now }
+    requires objects { (greatest : ℕ)
+        × AllByRecursion (HasVectorsIn progress.old.left.width greatest) shapes.now
+        × AllByRecursion (IsInnerRow progress.old.left.width greatest) rows.now }
     requires level { (1 ≤ level) × (level ≤ 5) }
     requires width { IsWidth progress.old.left.width }
     requires vectors { HaveWidth progress.old.left.width progress.old.left.vectors }
@@ -267,11 +303,22 @@ fn build_inner<M: Metric, L: Ledger>(
     requires next { progress.old.next ≤ length shapes.now }
     ensures width { progress.new.left.width ≡ progress.old.left.width }
     ensures next { progress.new.next ≤ length shapes.now }
-    ensures ok { IfOk result (λ es. walk_all (walk_inner_row M.dist level (λ object t. walk M.dist level (Some object) t) (leaves level) place (option_copied over.entry)) 0 rows.now (standing (ahead shapes.now progress.old) progress.old) ≡ Builds es (standing (ahead shapes.now progress.new) progress.new)) }
-    ensures bad { (p : Place) → result ≡ Err (Bad p) → walk_all (walk_inner_row M.dist level (λ object t. walk M.dist level (Some object) t) (leaves level) place (option_copied over.entry)) 0 rows.now (standing (ahead shapes.now progress.old) progress.old) ≡ Fails p }
+    ensures ok { IfOk result (λ es. walk_all
+        (walk_inner_row M.dist level (λ object t. walk M.dist level (Some object) t) (leaves level)
+        place (option_copied over.entry)) 0 rows.now
+        (standing (ahead shapes.now progress.old) progress.old)
+        ≡ Builds es (standing (ahead shapes.now progress.new) progress.new)) }
+    ensures bad { (p : Place) → result ≡ Err (Bad p)
+        → walk_all (walk_inner_row M.dist level (λ object t. walk M.dist level (Some object) t)
+        (leaves level) place (option_copied over.entry)) 0 rows.now
+        (standing (ahead shapes.now progress.old) progress.old) ≡ Fails p }
     ensures fewer { finite.len progress.new.left.vectors ≤ finite.len progress.old.left.vectors }
-    ensures whole { OnOk result (IsWhole level (finite.len progress.old.left.vectors - finite.len progress.new.left.vectors) (steps.new - steps.old)) }
-    ensures part { IsPart level (finite.len progress.old.left.vectors - finite.len progress.new.left.vectors) (steps.new - steps.old) }
+    ensures whole { OnOk result
+        (IsWhole level (finite.len progress.old.left.vectors - finite.len progress.new.left.vectors)
+        (steps.new - steps.old)) }
+    ensures part { IsPart level
+        (finite.len progress.old.left.vectors - finite.len progress.new.left.vectors)
+        (steps.new - steps.old) }
 {
     let mut entries = Items::new(alloc);
     for (i, row) in rows.iter().enumerate() {
@@ -294,7 +341,8 @@ fn build_node<M: Metric, L: Ledger>(
     steps: &mut Steps<L>,
 ) -> Result<Node, BuildFault>
     requires few { length shapes.now ≤ 200000 }
-    requires objects { (greatest : ℕ) × AllByRecursion (HasVectorsIn progress.old.left.width greatest) shapes.now }
+    requires objects { (greatest : ℕ)
+        × AllByRecursion (HasVectorsIn progress.old.left.width greatest) shapes.now }
     requires level { (1 ≤ level) × (level ≤ 6) }
     requires shape { is_of_level level (ahead shapes.now progress.old) ≡ true }
     requires width { IsWidth progress.old.left.width }
@@ -302,11 +350,19 @@ fn build_node<M: Metric, L: Ledger>(
     requires over { IsOver progress.old.left.width (option_copied over) }
     ensures width { progress.new.left.width ≡ progress.old.left.width }
     ensures next { progress.new.next ≤ length shapes.now }
-    ensures ok { IfOk result (λ n. walk M.dist level (option_copied over.entry) (standing (ahead shapes.now progress.old) progress.old) ≡ Builds n (standing (ahead shapes.now progress.new) progress.new)) }
-    ensures bad { (p : Place) → result ≡ Err (Bad p) → walk M.dist level (option_copied over.entry) (standing (ahead shapes.now progress.old) progress.old) ≡ Fails p }
+    ensures ok { IfOk result (λ n. walk M.dist level (option_copied over.entry)
+        (standing (ahead shapes.now progress.old) progress.old)
+        ≡ Builds n (standing (ahead shapes.now progress.new) progress.new)) }
+    ensures bad { (p : Place) → result ≡ Err (Bad p)
+        → walk M.dist level (option_copied over.entry)
+        (standing (ahead shapes.now progress.old) progress.old) ≡ Fails p }
     ensures fewer { finite.len progress.new.left.vectors ≤ finite.len progress.old.left.vectors }
-    ensures whole { OnOk result (IsWhole (level - 1) (finite.len progress.old.left.vectors - finite.len progress.new.left.vectors) (steps.new - steps.old)) }
-    ensures part { IsPart (level - 1) (finite.len progress.old.left.vectors - finite.len progress.new.left.vectors) (steps.new - steps.old) }
+    ensures whole { OnOk result
+        (IsWhole (level - 1) (finite.len progress.old.left.vectors - finite.len
+        progress.new.left.vectors) (steps.new - steps.old)) }
+    ensures part { IsPart (level - 1)
+        (finite.len progress.old.left.vectors - finite.len progress.new.left.vectors)
+        (steps.new - steps.old) }
 {
     let place = progress.next;
     progress.next = place + 1;
@@ -340,7 +396,8 @@ fn build_node<M: Metric, L: Ledger>(
 
 // The objects are bytes.
 fn know_objects(shapes: &[Shape])
-    ensures { (width greatest : ℕ) → AllByRecursion (HasObjectsIn width greatest) shapes.now → AllByRecursion (HasVectorsIn width greatest) shapes.now }
+    ensures { (width greatest : ℕ) → AllByRecursion (HasObjectsIn width greatest) shapes.now
+        → AllByRecursion (HasVectorsIn width greatest) shapes.now }
 {
     for shape in shapes {
         know_rows(shape);
@@ -348,7 +405,8 @@ fn know_objects(shapes: &[Shape])
 }
 
 fn know_rows(shape: &Shape)
-    ensures { (width greatest : ℕ) → HasObjectsIn width greatest shape.now → HasVectorsIn width greatest shape.now }
+    ensures { (width greatest : ℕ) → HasObjectsIn width greatest shape.now
+        → HasVectorsIn width greatest shape.now }
 {
     if let Shape::Inner { tag: _, rows } = shape {
         for row in rows.as_slice() {
@@ -357,20 +415,20 @@ fn know_rows(shape: &Shape)
     }
 }
 
-/// The tree of a height whose nodes in preorder are the shapes, over the records: none where there are
-/// none. It computes at most 8 distances for each record.
+/// The tree of a height whose nodes in preorder are the shapes, over the records: none where there
+/// are none. It computes at most 8 distances for each record.
 ///
-/// There are at most 200,000 shapes, and none exactly where the height is 0 and exactly where there are no
-/// records. The height is at most 6, and the first shape is a leaf exactly where it is 1. Objects have the
-/// records' width, and no radius is above the metric's greatest distance.
+/// There are at most 200,000 shapes, and none exactly where the height is 0 and exactly where
+/// there are no records. The height is at most 6, and the first shape is a leaf exactly where it
+/// is 1. Objects have the records' width, and no radius is above the metric's greatest distance.
 ///
 /// # Errors
 ///
-/// `Bad` with the first place, in the order of the walk, where the list isn't the preorder of a well-formed
-/// tree of this height over exactly these records: each node's number of entries first, then its entries in
-/// turn, of a leaf the number and the parent distance, of an inner node the parent distance, the child's
-/// place, the child itself and the radius; after that a record that no entry names, and a shape that isn't
-/// reached. `Memory` on want of memory.
+/// `Bad` with the first place, in the order of the walk, where the list isn't the preorder of a
+/// well-formed tree of this height over exactly these records: each node's number of entries
+/// first, then its entries in turn, of a leaf the number and the parent distance, of an inner node
+/// the parent distance, the child's place, the child itself and the radius; after that a record
+/// that no entry names, and a shape that isn't reached. `Memory` on want of memory.
 pub fn build<M: Metric, L: Ledger>(
     alloc: Global,
     height: u32,
@@ -378,12 +436,22 @@ pub fn build<M: Metric, L: Ledger>(
     records: &Records,
     steps: &mut Steps<L>,
 ) -> Result<Option<Boxed<Node>>, BuildFault>
-    requires { CanBeBuilt records.now.width (M.most records.now.width) height shapes.now records.now.vectors }
-    ensures tree { IfOk result (λ root. IsTreeOf M.dist records.now.width (M.most records.now.width) height shapes.now records.now.vectors root) }
-    ensures only { IfOk result (λ root. (other : Option PlainNode) → IsTreeOf M.dist records.now.width (M.most records.now.width) height shapes.now records.now.vectors other → root ≡ other) }
-    ensures passes { OnOk result (first_failing M.dist height shapes.now records.now.vectors ≡ None) }
-    ensures bad { (p : Place) → result ≡ Err (Bad p) → first_failing M.dist height shapes.now records.now.vectors ≡ Some p }
-    ensures no_tree { (p : Place) → result ≡ Err (Bad p) → (root : Option PlainNode) → IsTreeOf M.dist records.now.width (M.most records.now.width) height shapes.now records.now.vectors root → ⊥ }
+    requires { CanBeBuilt records.now.width (M.most records.now.width) height shapes.now
+        records.now.vectors }
+    ensures tree { IfOk result
+        (λ root. IsTreeOf M.dist records.now.width (M.most records.now.width) height shapes.now
+        records.now.vectors root) }
+    ensures only { IfOk result
+        (λ root. (other : Option PlainNode)
+        → IsTreeOf M.dist records.now.width (M.most records.now.width) height shapes.now
+        records.now.vectors other → root ≡ other) }
+    ensures passes { OnOk result
+        (first_failing M.dist height shapes.now records.now.vectors ≡ None) }
+    ensures bad { (p : Place) → result ≡ Err (Bad p)
+        → first_failing M.dist height shapes.now records.now.vectors ≡ Some p }
+    ensures no_tree { (p : Place) → result ≡ Err (Bad p) → (root : Option PlainNode)
+        → IsTreeOf M.dist records.now.width (M.most records.now.width) height shapes.now
+        records.now.vectors root → ⊥ }
     ensures counted { steps.new ≤ steps.old + 8 * finite.len records.now.vectors }
 {
     if height == 0 {

@@ -4,7 +4,8 @@ ghost use Rattle.std.specs.Prelude.{◌≡◌, ℕ, ◌+◌, ◌≤◌, ◌++◌
 ghost use Rattle.std.specs.List.{AllByRecursion};
 ghost use Rattle.mtree_node.specs.declared.node.InnerEntry.{out-InnerEntry};
 ghost use Rattle.mtree_node.specs.Tree.{IsLeveled, IsLevel};
-ghost use Rattle.mtree_node.specs.Preorder.{size, leaf_row, inner_rows, shapes_below, shapes_from, preorder};
+ghost use Rattle.mtree_node.specs.Preorder.{size, leaf_row, inner_rows, shapes_below, shapes_from};
+ghost use Rattle.mtree_node.specs.Preorder.{preorder};
 
 use crate::leaf_entries::LeafEntries;
 use crate::levels::height;
@@ -60,7 +61,8 @@ fn inner_rows(
     first: u32,
 ) -> Result<InnerShape, AllocError>
     requires leveled { AllByRecursion (λ e. IsLeveled levels (out-InnerEntry e).child) entries.now }
-    requires few { first + sum_by (λ e. size levels (out-InnerEntry e).child) entries.now ≤ 25137931 }
+    requires few { first + sum_by (λ e. size levels (out-InnerEntry e).child) entries.now
+        ≤ 25137931 }
     ensures { IfOk result (λ rows. rows ≡ inner_rows (size levels) first entries.now) }
 {
     let mut rows = Items::new(alloc);
@@ -81,8 +83,11 @@ fn push_below(
     shapes: &mut Shapes,
 ) -> Result<(), AllocError>
     requires leveled { AllByRecursion (λ e. IsLeveled levels (out-InnerEntry e).child) entries.now }
-    requires few { length shapes.old + sum_by (λ e. size levels (out-InnerEntry e).child) entries.now ≤ 25137931 }
-    ensures { OnOk result (shapes.new ≡ shapes.old ++ shapes_below (size levels) (shapes_from levels) (length shapes.old) entries.now) }
+    requires few { length shapes.old + sum_by (λ e. size levels (out-InnerEntry e).child)
+        entries.now ≤ 25137931 }
+    ensures { OnOk result (shapes.new
+        ≡ shapes.old ++ shapes_below (size levels) (shapes_from levels) (length shapes.old)
+        entries.now) }
 {
     for entry in entries {
         push_node(alloc, entry.child.get(), levels, shapes)?;
@@ -95,7 +100,8 @@ fn push_below(
 fn push_node(alloc: Global, node: &Node, levels: u32, shapes: &mut Shapes) -> Result<(), AllocError>
     requires leveled { IsLeveled levels node.now }
     requires few { length shapes.old + size levels node.now ≤ 25137931 }
-    ensures { OnOk result (shapes.new ≡ shapes.old ++ shapes_from levels (length shapes.old) node.now) }
+    ensures { OnOk result (shapes.new
+        ≡ shapes.old ++ shapes_from levels (length shapes.old) node.now) }
 {
     match node {
         Node::Leaf { tag, entries } => {
@@ -112,19 +118,22 @@ fn push_node(alloc: Global, node: &Node, levels: u32, shapes: &mut Shapes) -> Re
     }
 }
 
-/// The nodes of a tree in preorder, each as a shape: the root first, and each node before the nodes below
-/// it. A child's place counts from 0.
+/// The nodes of a tree in preorder, each as a shape: the root first, and each node before the
+/// nodes below it. A child's place counts from 0.
 ///
-/// The leaves are all at one depth of at most 6 levels, each node has at most 30 entries, and each inner
-/// node has at least one.
+/// The leaves are all at one depth of at most 6 levels, each node has at most 30 entries, and each
+/// inner node has at least one.
 ///
 /// # Errors
 ///
 /// `AllocError` where the memory is too small for the list.
 pub fn flatten(alloc: Global, root: &Node) -> Result<Shapes, AllocError>
     requires leveled { IsLevel root.now }
-    ensures is { IfOk result (λ shapes. (levels : ℕ) → IsLeveled levels root.now → shapes ≡ preorder levels root.now) }
-    ensures count { IfOk result (λ shapes. (levels : ℕ) → IsLeveled levels root.now → length shapes ≡ size levels root.now) }
+    ensures is { IfOk result (λ shapes. (levels : ℕ) → IsLeveled levels root.now → shapes
+        ≡ preorder levels root.now) }
+    ensures count { IfOk result
+        (λ shapes. (levels : ℕ) → IsLeveled levels root.now → length shapes
+        ≡ size levels root.now) }
 {
     let mut shapes = Items::new(alloc);
     push_node(alloc, root, height(root), &mut shapes)?;

@@ -1,9 +1,11 @@
 //! The entries of a leaf, with their vectors in one block.
 
-ghost use Rattle.std.specs.Prelude.{◌≡◌, [], ◌∷◌, ◌++◌, ◌+◌, ◌<◌, length, map, remove, replicate, slice_index_or, OnOk, OnErr, IfOk};
+ghost use Rattle.std.specs.Prelude.{◌≡◌, [], ◌∷◌, ◌++◌, ◌+◌, ◌<◌, length, map, remove, replicate};
+ghost use Rattle.std.specs.Prelude.{slice_index_or, OnOk, OnErr, IfOk};
 ghost use Rattle.std.specs.List.{AllByRecursion};
 ghost use Rattle.vec_record.specs.Vectors.{IsVector, IsWidth};
-ghost use Rattle.mtree_node.specs.Lists.{numbers_of, parents_of, vectors_of, HaveVectorsOf, without_parent};
+ghost use Rattle.mtree_node.specs.Lists.{numbers_of, parents_of, vectors_of, HaveVectorsOf};
+ghost use Rattle.mtree_node.specs.Lists.{without_parent};
 
 use crate::node::LeafEntry;
 use std::alloc::{AllocError, Global};
@@ -11,8 +13,8 @@ use std::marker::Model;
 use std::sync::ledger::Ledger;
 use vec_record::{Block, Metric, Number, Steps, Vector};
 
-/// The entries of a leaf, seen as the list of them. In memory they lie apart, since a query reads all
-/// parent distances, few of the vectors, and fewer of the numbers. The vectors have one width.
+/// The entries of a leaf, seen as the list of them. In memory they lie apart, since a query reads
+/// all parent distances, few of the vectors, and fewer of the numbers. The vectors have one width.
 #[derive(Drop)]
 pub struct LeafEntries {
     numbers: Vec<Number>,
@@ -29,7 +31,8 @@ impl Model for LeafEntries {
 
     ghost view = { λ l. entries_of l.numbers.items l.parents.items l.rows.rows };
 
-    ghost invariant = { λ l. (length l.numbers.items ≡ length l.rows.rows) × (length l.parents.items ≡ length l.rows.rows) };
+    ghost invariant = { λ l. (length l.numbers.items ≡ length l.rows.rows)
+        × (length l.parents.items ≡ length l.rows.rows) };
 }
 
 impl LeafEntries {
@@ -133,7 +136,9 @@ impl LeafEntries {
     pub fn push(&mut self, number: Number, parent: u32, vector: &[u8]) -> Result<(), AllocError>
         requires width { IsWidth (length vector.now) }
         requires vectors { HaveVectorsOf (length vector.now) self.old }
-        ensures ok { OnOk result (self.new ≡ self.old ++ record { number = number; vector = vector.now; parent = parent } ∷ []) }
+        ensures ok { OnOk result
+            (self.new ≡ self.old ++ record { number = number; vector = vector.now; parent = parent }
+            ∷ []) }
         ensures err { OnErr result (self.new ≡ self.old) }
     {
         let alloc = *self.numbers.allocator();
@@ -149,7 +154,8 @@ impl LeafEntries {
 
     /// Adds further entries behind the last. Their vectors have one width.
     pub fn append(&mut self, more: &LeafEntries) -> Result<(), AllocError>
-        requires vectors { (width : _) × HaveVectorsOf width self.old × HaveVectorsOf width more.now }
+        requires vectors { (width : _) × HaveVectorsOf width self.old
+            × HaveVectorsOf width more.now }
         ensures { OnOk result (self.new ≡ self.old ++ more.now) }
     {
         for at in 0..more.len() {

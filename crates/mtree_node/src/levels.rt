@@ -7,8 +7,8 @@ use crate::node::Node;
 
 /// The number of levels of a tree: 1 for a leaf. It takes no memory.
 ///
-/// The leaves are all at one depth of at most 6 levels, each node has at most 30 entries, and each inner
-/// node has at least one.
+/// The leaves are all at one depth of at most 6 levels, each node has at most 30 entries, and each
+/// inner node has at least one.
 pub fn height(root: &Node) -> u32
     requires leveled { IsLevel root.now }
     ensures is { IsLeveled result root.now }

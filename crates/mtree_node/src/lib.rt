@@ -1,11 +1,12 @@
 //! The nodes of the tree, and what a tree of them is.
 //!
-//! A node is a leaf with numbered vectors, or an inner node whose entries each have a routing object, a
-//! covering radius and a child (Ciaccia and others). The definitions of `specs/` say which trees are
-//! well formed, what records a tree holds, and what a range query over it costs. [`height`] is promised
-//! to give the number of levels, [`flatten`] to list the nodes in preorder, [`build`] to make the tree of such
-//! a list or name the first place where it is none, and [`retag`] to set the tags in preorder and nothing
-//! else. The crate stands on `vec_record` and `items`.
+//! A node is a leaf with numbered vectors, or an inner node whose entries each have a routing
+//! object, a covering radius and a child (Ciaccia and others). The definitions of `specs/` say
+//! which trees are well formed, what records a tree holds, and what a range query over it costs.
+//! [`height`] is promised to give the number of levels, [`flatten`] to list the nodes in preorder,
+//! [`build`] to make the tree of such a list or name the first place where it is none, and
+//! [`retag`] to set the tags in preorder and nothing else. The crate stands on `vec_record` and
+//! `items`.
 #![tactic(auto)]
 
 #[cfg(test)]

@@ -10,7 +10,8 @@ pub struct LeafEntry {
     pub number: Number,
     /// The distance from the node's routing object, 0 in the root.
     pub parent: u32,
-    // Last, since fields lie in their order: with the two numbers side by side an entry has no gaps.
+    // Last, since fields lie in their order: with the two numbers side by side an entry has no
+    // gaps.
     pub vector: Vector,
 }
 

@@ -4,7 +4,8 @@ ghost use Rattle.std.specs.Prelude.{◌≡◌, ℕ, ◌+◌, ◌≤◌, length, 
 ghost use Rattle.std.specs.List.{AllByRecursion};
 ghost use Rattle.mtree_node.specs.declared.node.InnerEntry.{out-InnerEntry};
 ghost use Rattle.mtree_node.specs.Tree.{IsLeveled, IsLevel};
-ghost use Rattle.mtree_node.specs.Preorder.{size, retagged_entry, retagged_below, retagged_from, retagged};
+ghost use Rattle.mtree_node.specs.Preorder.{size, retagged_entry, retagged_below, retagged_from};
+ghost use Rattle.mtree_node.specs.Preorder.{retagged};
 
 use crate::levels::height;
 use crate::node::{InnerEntry, Node};
@@ -14,7 +15,8 @@ use items::Items;
 fn retag_entry(entry: &mut InnerEntry, levels: u32, tags: &[u32], at: usize) -> usize
     requires leveled { IsLeveled levels (out-InnerEntry entry.old).child }
     requires tags { at + size levels (out-InnerEntry entry.old).child ≤ length tags.now }
-    ensures is { entry.new ≡ retagged_entry (retagged_from tags.now levels at) (out-InnerEntry entry.old) }
+    ensures is { entry.new ≡ retagged_entry (retagged_from tags.now levels at)
+        (out-InnerEntry entry.old) }
     ensures next { result ≡ at + size levels (out-InnerEntry entry.old).child }
 {
     retag_node(entry.child.get_mut(), levels, tags, at)
@@ -24,8 +26,10 @@ fn retag_entry(entry: &mut InnerEntry, levels: u32, tags: &[u32], at: usize) -> 
 #[cycle(retag)]
 fn retag_below(entries: &mut Items<InnerEntry>, levels: u32, tags: &[u32], first: usize) -> usize
     requires leveled { AllByRecursion (λ e. IsLeveled levels (out-InnerEntry e).child) entries.old }
-    requires tags { first + sum_by (λ e. size levels (out-InnerEntry e).child) entries.old ≤ length tags.now }
-    ensures is { entries.new ≡ retagged_below (size levels) (retagged_from tags.now levels) first entries.old }
+    requires tags { first + sum_by (λ e. size levels (out-InnerEntry e).child) entries.old
+        ≤ length tags.now }
+    ensures is { entries.new ≡ retagged_below (size levels) (retagged_from tags.now levels) first
+        entries.old }
     ensures next { result ≡ first + sum_by (λ e. size levels (out-InnerEntry e).child) entries.old }
 {
     let mut at = first;
@@ -35,7 +39,8 @@ fn retag_below(entries: &mut Items<InnerEntry>, levels: u32, tags: &[u32], first
     at
 }
 
-// Sets the tags of a node and of all below it, from a place on, and gives the place of the next tag.
+// Sets the tags of a node and of all below it, from a place on, and gives the place of the next
+// tag.
 #[cycle(retag)]
 fn retag_node(node: &mut Node, levels: u32, tags: &[u32], at: usize) -> usize
     requires leveled { IsLeveled levels node.old }
@@ -55,15 +60,17 @@ fn retag_node(node: &mut Node, levels: u32, tags: &[u32], at: usize) -> usize
     }
 }
 
-/// Sets the tags of the nodes, in preorder: one tag for each node. Nothing else changes, and it takes no
-/// memory.
+/// Sets the tags of the nodes, in preorder: one tag for each node. Nothing else changes, and it
+/// takes no memory.
 ///
-/// The leaves are all at one depth of at most 6 levels, each node has at most 30 entries, and each inner
-/// node has at least one.
+/// The leaves are all at one depth of at most 6 levels, each node has at most 30 entries, and each
+/// inner node has at least one.
 pub fn retag(root: &mut Node, tags: &[u32])
     requires leveled { IsLevel root.old }
-    requires tags { (levels : ℕ) → IsLeveled levels root.old → length tags.now ≡ size levels root.old }
-    ensures is { (levels : ℕ) → IsLeveled levels root.old → root.new ≡ retagged tags.now levels root.old }
+    requires tags { (levels : ℕ) → IsLeveled levels root.old → length tags.now
+        ≡ size levels root.old }
+    ensures is { (levels : ℕ) → IsLeveled levels root.old → root.new
+        ≡ retagged tags.now levels root.old }
 {
     let levels = height(root);
     let _ = retag_node(root, levels, tags, 0);

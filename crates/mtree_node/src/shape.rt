@@ -1,4 +1,5 @@
-//! Shapes, which are nodes without their children and vectors, and what may be wrong with a list of them.
+//! Shapes, which are nodes without their children and vectors, and what may be wrong with a list
+//! of them.
 
 use items::Items;
 use std::alloc::AllocError;
@@ -7,8 +8,8 @@ use vec_record::{Number, Vector};
 /// A leaf's entries: each number with its parent distance.
 pub type LeafShape = Items<(Number, u32)>;
 
-/// An inner node's entries: for each its child's place in the list of shapes, its parent distance, its
-/// covering radius and its object.
+/// An inner node's entries: for each its child's place in the list of shapes, its parent distance,
+/// its covering radius and its object.
 pub type InnerShape = Items<(u32, u32, u32, Vector)>;
 
 /// A node without its children: an inner node names theirs by their places in the list of shapes.
@@ -34,7 +35,8 @@ pub struct BadPlace {
 /// What is wrong at a place.
 #[derive(Clone, Copy, Debug, Drop, PartialEq, Eq)]
 pub enum BadWhat {
-    /// The child's place isn't the next of the preorder, or its shape isn't of the kind of its level.
+    /// The child's place isn't the next of the preorder, or its shape isn't of the kind of its
+    /// level.
     Child,
     /// The node has too few entries or too many, or it isn't reached.
     Fill,

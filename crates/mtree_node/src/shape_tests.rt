@@ -11,9 +11,9 @@ use std::alloc::{AllocError, Global};
 use std::test::Fail;
 use vec_record::Vector;
 
-// The shapes of the tree below: the kind, 1 for an inner node, the tag, the number of rows and the rows.
-// A leaf's row is a number and a parent distance, an inner node's row a place, a parent distance, a
-// radius and an object.
+// The shapes of the tree below: the kind, 1 for an inner node, the tag, the number of rows and the
+// rows. A leaf's row is a number and a parent distance, an inner node's row a place, a parent
+// distance, a radius and an object.
 const BEFORE: [u32; 46] = [
     1, 50, 2, 1, 0, 10, 10, 4, 0, 0, 90, //
     1, 40, 2, 2, 0, 2, 10, 3, 10, 0, 20, //

@@ -144,12 +144,12 @@ fn rank_below(
 
 /// The pair to promote among 31 to 36 entries, with the sides and radii of its balanced parting.
 ///
-/// `matrix` has the distances between the entries, row by row, `radii` one radius for each entry, and
-/// no value is above `greatest`, the metric's greatest distance. All entries are left at first, those
-/// of the pair among them. The left side takes its nearest entry that is left, then the right side, in
-/// turns, ties to the least position. A side's radius is the greatest sum of the distance to its object
-/// and the entry's radius, cut at `greatest`. The chosen pair's greater radius is least, ties to the
-/// lexicographically least pair.
+/// `matrix` has the distances between the entries, row by row, `radii` one radius for each entry,
+/// and no value is above `greatest`, the metric's greatest distance. All entries are left at
+/// first, those of the pair among them. The left side takes its nearest entry that is left, then
+/// the right side, in turns, ties to the least position. A side's radius is the greatest sum of
+/// the distance to its object and the entry's radius, cut at `greatest`. The chosen pair's greater
+/// radius is least, ties to the lexicographically least pair.
 pub fn choose(count: usize, matrix: &[u32], radii: &[u32], greatest: u32) -> Parting
     requires at_least { 31 ≤ count }
     requires at_most { count ≤ 36 }

@@ -1,12 +1,15 @@
-use Rattle.std.proofs.Common.{◌≡◌, ◌+◌, ◌*◌, ◌≤◌, ◌++◌, length, map, drop}
+use Rattle.std.proofs.Common.{◌≡◌, ◌+◌, ◌-◌, ◌≤◌, length, map, take}
 use Rattle.std.specs.List.{AllByRecursion, flat_map}
-use Rattle.mtree_index.specs.Split.{row, distances}
+use Rattle.vec_record.specs.Vectors.{IsVector}
+use Rattle.mtree_index.specs.Split.{row}
+use Rattle.mtree_index.specs.inside.Pairs.{pairs}
 use Rattle.mtree_index.proofs.split.distances.Given as goal
 
-abbrev pub invariant-loop-entry : goal.invariant-loop-entry
-invariant-loop-entry g l =
-    let object = g.E.Entry.object in
-    let dist = g.M.Metric.dist in
-    (l.matrix.items ++ flat_map (λ o. row dist o (map object l.entries)) (map object (drop l.entry-index l.entries)) ≡ distances dist (map object l.entries))
-    × (l.steps ≤ l.fn.steps + l.entry-index * length l.entries)
-    × AllByRecursion (λ e. length (object e) ≡ l.width) (drop l.entry-index l.entries)
+abbrev pub invariant-loop-at : goal.invariant-loop-at
+invariant-loop-at g l =
+    let objects = map g.E.Entry.object l.entries in
+    record {
+      rows : l.matrix.items ≡ flat_map (λ o. row g.M.Metric.dist o objects) (take l.at objects);
+      vectors : AllByRecursion (IsVector l.width) (take l.at objects);
+      counted : l.steps + pairs (length l.entries - l.at) ≤ l.fn.steps + pairs (length l.entries);
+    }

@@ -1,10 +1,9 @@
-use Rattle.std.specs.List.{AllByRecursion}
-use Rattle.std.proofs.Common.{zero, suc, ◌∷◌, ◌≡◌, ℕ, ◌*◌, ◌<◌, length, map, List, [], get_or, ap, ◌∙◌, arith}
+use Rattle.std.proofs.Common.{◌≡◌, ℕ, ◌*◌, ◌<◌, length, map, List, [], get_or, ap, ◌∙◌, arith}
 use Rattle.std.proofs.lemmas.List.{length-map}
 use Rattle.mtree_split.specs.Choice.{row_of}
 use Rattle.mtree_index.specs.Split.{row, distances}
 use Rattle.mtree_index.proofs.Matrix.{length-distances, row_is}
-use Rattle.mtree_index.proofs.Halves.{parting_is, left_is, right_is}
+use Rattle.mtree_index.proofs.Halves.{objects_of, parting_is, left_is, right_is}
 use Rattle.mtree_index.proofs.split.split.Goals as goal
 
 square : (dist : List ℕ → List ℕ → ℕ) (os : List (List ℕ)) (m : List ℕ) (n : ℕ) → m ≡ distances dist os → n ≡ length os → length m ≡ n * n
@@ -67,11 +66,6 @@ returns-clause-right g c =
     let at : c.in_ok-right_object.right_object ≡ get_or os p.right [] = c.in_ok-right_object.ensures ∙ ap (λ xs. get_or (map object xs) p.right []) c.deref-6.ensures.value in
     let there = row_there dist os c.deref-8.result.now c.row_at-right_row.result.now c.in_ok-right_object.right_object c.len-count.result p.right c.row_at-right_row.ensures.value (c.deref-8.ensures.value ∙ matrix) count inside at in
     right_is dist (g.M.Metric.most c.args.width) object g.E.Entry.radius g.E.Entry.with_parent es p c.in_ok-right_object.right_object c.row_at-right_row.result.now c.in_ok-left.right is at there c.in_ok-left.ensures.right
-
-objects_of : {A : Type 0} (object : A → List ℕ) (width : ℕ) (es : List A) (i : ℕ) → AllByRecursion (λ e. length (object e) ≡ width) es → i < length es → length (get_or (map object es) i []) ≡ width
-objects_of object width [] i all l = absurd (omega (arith, l))
-objects_of object width (e ∷ es) zero all l = all.0
-objects_of object width (e ∷ es) (suc i) all l = objects_of object width es i all.1 (omega (arith, l))
 
 pub returns-clause-objects : goal.returns-clause-objects
 returns-clause-objects g c =
