@@ -44,3 +44,10 @@ unfolding above
 ceased_core minpts rows fresh k r w b at new h =
     subst (λ o. IsTrue b ↔ (above minpts o × (above minpts (map.get fresh k) → ⊥))) at
     (subst (λ o. IsTrue b ↔ (above minpts (Some r) × (above minpts o → ⊥))) (sym (ap (λ m. map.get m k) new ∙ here rows k w)) (falls minpts r w b h))
+
+-- a core whose row was raised is core still
+pub stays_core : (minpts : ℕ) (rows fresh : Rows) (k : ℕ) (r w : Row) → Some r ≡ map.get rows k → fresh ≡ map.insert rows k w
+    → (minpts ≤ r.count → minpts ≤ w.count) → IsCore (record { minpts = minpts; rows = rows }) k → IsCore (record { minpts = minpts; rows = fresh }) k
+unfolding above
+stays_core minpts rows fresh k r w at new h was =
+    subst (above minpts) (sym (ap (λ m. map.get m k) new ∙ here rows k w)) (h (subst (above minpts) (sym at) was))

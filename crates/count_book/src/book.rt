@@ -71,6 +71,7 @@ impl CountBook {
         requires { IsSome (map.get self.old.rows number) }
         ensures rest { self.new ≡ updated one_more self.old number }
         ensures value { IsTrue result ↔ BecameCore self.old self.new number }
+        ensures stays { IsCore self.old number → IsCore self.new number }
     {
         match self.rows.get_mut(number) {
             Some(row) => row.raise(self.minpts),

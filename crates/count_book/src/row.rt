@@ -18,6 +18,7 @@ impl Row {
     pub(crate) fn raise(&mut self, minpts: u32) -> bool
         ensures row { self.new ≡ one_more self.old }
         ensures value { IsTrue result ↔ ((self.old.count < minpts) × (minpts ≤ self.new.count)) }
+        ensures stays { minpts ≤ self.old.count → minpts ≤ self.new.count }
     {
         let below = self.count < minpts;
         self.count = self.count.saturating_add(1);

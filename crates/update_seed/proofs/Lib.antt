@@ -6,3 +6,6 @@ pub mod Classes
 pub mod Linked
 pub mod Clusters
 pub mod Rows
+pub mod ByLabel
+pub mod Looking
+pub mod Leaving

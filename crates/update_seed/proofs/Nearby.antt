@@ -138,11 +138,11 @@ offered_none labels m core near c all = record {
   far = λ q n. refl;
 }
 
-at_changed : (f : Row → Row) (rows : Rows) (k : ℕ) (o : Option Row) → map.get rows k ≡ o → map.get (put_back f rows k o) k ≡ option_map f o
+pub at_changed : (f : Row → Row) (rows : Rows) (k : ℕ) (o : Option Row) → map.get rows k ≡ o → map.get (put_back f rows k o) k ≡ option_map f o
 at_changed f rows k None e = e
 at_changed f rows k (Some r) e = here rows k (f r)
 
-off_changed : (f : Row → Row) (rows : Rows) (k q : ℕ) (o : Option Row) → (q ≡ k → ⊥) → map.get (put_back f rows k o) q ≡ map.get rows q
+pub off_changed : (f : Row → Row) (rows : Rows) (k q : ℕ) (o : Option Row) → (q ≡ k → ⊥) → map.get (put_back f rows k o) q ≡ map.get rows q
 off_changed f rows k q None ne = refl
 off_changed f rows k q (Some r) ne = apart rows k (f r) q ne
 

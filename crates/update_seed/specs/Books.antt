@@ -1,5 +1,5 @@
 -- What books and an index have to do with the records.
-use Rattle.std.specs.Prelude.{◌≡◌, ◌↔◌, ℕ, ◌≤◌, Bool, List, Option, Some, None, is_some, IsSome, if◌then◌else◌}
+use Rattle.std.specs.Prelude.{◌≡◌, ◌↔◌, ℕ, ◌≤◌, Bool, false, nat_le, List, Option, Some, None, is_some, IsSome, if◌then◌else◌}
 use Rattle.std.specs.FinMap as map
 use Rattle.vec_record.specs.Held.{Held, Rows}
 use Rattle.plain_dbscan.specs.Marks.{Density, density, Entries, is_core, is_near, near_of, size_of, cluster_of, anchor_of}
@@ -19,6 +19,15 @@ near_in dist eps records = is_near (density dist eps 1) (map.entries records.vec
 -- The numbers near a record, rising.
 abbrev pub all_near : (List ℕ → List ℕ → ℕ) → ℕ → Held → ℕ → List ℕ
 all_near dist eps records a = near_of (density dist eps 1) (map.entries records.vectors) a
+
+-- Whether there is a row, and it counts as many neighbours as make a core.
+abbrev pub is_core_row : ℕ → Option Row → Bool
+is_core_row minpts None = false
+is_core_row minpts (Some r) = nat_le minpts r.count
+
+-- Whether a number is in the book, with a count of at least the book's `minpts`.
+abbrev pub core_in : Counted → ℕ → Bool
+core_in counts a = is_core_row counts.minpts (map.get counts.rows a)
 
 -- The index holds the records, and the books have the form that books of these records have:
 -- counts for exactly the records, each at least 1, no anchor at a core, and labels for exactly the

@@ -2,4 +2,5 @@ pub mod Books
 pub mod Price
 pub mod Groups
 pub mod Offers
+pub mod Outgoing
 pub mod inside

@@ -1,9 +1,11 @@
 //! The groups, read off from what is tied together.
 
-ghost use Rattle.std.specs.Prelude.{◌≡◌, ℕ, List, length, slice_get, Some, IsSome, is_some, is_none, filter, IfOk, OnOk};
+ghost use Rattle.std.specs.Prelude.{◌≡◌, ℕ, List, length, slice_get, Some, IsSome, is_some};
+ghost use Rattle.std.specs.Prelude.{is_none, filter, IfOk, OnOk};
 ghost use Rattle.std.specs.FinMap as map;
 ghost use Rattle.label_book.specs.Labels.{IsMember, EachOnce};
-ghost use Rattle.update_seed.specs.inside.Ties.{IsRising, HaveSame, IsBegun, AreHeads, IsClassOf, AreClasses};
+ghost use Rattle.update_seed.specs.inside.Ties.{IsRising, HaveSame, IsBegun, AreHeads, IsClassOf};
+ghost use Rattle.update_seed.specs.inside.Ties.{AreClasses};
 
 use crate::groups::{InGroup, InGroups};
 use label_book::LabelBook;

@@ -20,11 +20,11 @@ use vec_record::{Metric, Number, Numbers, Records, Steps};
 /// The clusters that have a new core: of each its new cores, and the labels that its other cores
 /// have had. They come by their least new cores, rising.
 ///
-/// The index holds the records; `new_cores` names, each once, records that are core by their counts
-/// and have no label. Each of them is the centre of one query, and is offered as an anchor to the
-/// records near it that have no label and aren't core. Where `labels` stands for the records before,
-/// and `new_cores` are the new ones, the groups are exactly the clusters with a new core. After want
-/// of memory some anchors may have been offered.
+/// The index holds the records; `new_cores` names, each once, records that are core by their
+/// counts and have no label. Each of them is the centre of one query, and is offered as an anchor
+/// to the records near it that have no label and aren't core. Where `labels` stands for the
+/// records before, and `new_cores` are the new ones, the groups are exactly the clusters with a
+/// new core. After want of memory some anchors may have been offered.
 pub fn seeds_in<M: Metric, I: RangeIndex<M>, L: Ledger>(
     alloc: Global,
     records: &Records,
@@ -57,8 +57,9 @@ pub fn seeds_in<M: Metric, I: RangeIndex<M>, L: Ledger>(
     gather(alloc, &ties, labels, cores)
 }
 
-// Gives in `near` the numbers near a record.
-fn ask<M: Metric, I: RangeIndex<M>, L: Ledger>(
+/// Gives in `near` the numbers near a record, rising, by one query. It needs a record that is
+/// there. After want of memory `near` holds no stated numbers.
+pub fn ask<M: Metric, I: RangeIndex<M>, L: Ledger>(
     records: &Records,
     index: &I,
     number: Number,
