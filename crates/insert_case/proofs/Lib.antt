@@ -1,0 +1,15 @@
+pub mod Tests
+pub mod Raised
+pub mod Anchors
+pub mod Standing
+pub mod Fitting
+pub mod Paying
+pub mod Around
+pub mod Joined
+pub mod Told
+pub mod Labelled
+pub mod EventLists
+pub mod EventsDue
+pub mod Noise
+pub mod Whole
+pub mod Finished

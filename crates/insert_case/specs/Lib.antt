@@ -1,0 +1,4 @@
+pub mod Inserted
+pub mod Joining
+pub mod Told
+pub mod inside

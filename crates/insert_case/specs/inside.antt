@@ -1,0 +1,3 @@
+-- What only code and proofs speak of.
+pub mod Counting
+pub mod Joins
