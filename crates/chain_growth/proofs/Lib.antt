@@ -1,0 +1,9 @@
+pub mod Lists
+pub mod Levels
+pub mod Steps
+pub mod Grown
+pub mod Work
+pub mod Entering
+pub mod Answer
+pub mod Exists
+pub mod Views

@@ -1,0 +1,6 @@
+pub mod Parted
+pub mod Paid
+pub mod Begun
+pub mod Known
+pub mod Sets
+pub mod Tested

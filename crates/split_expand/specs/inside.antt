@@ -1,0 +1,2 @@
+-- What the code says of its work list. No public clause cites it.
+pub mod Growing
