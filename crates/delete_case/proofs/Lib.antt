@@ -1,0 +1,17 @@
+pub mod Lowered
+pub mod Labelled
+pub mod Remaining
+pub mod Gone
+pub mod Counted
+pub mod Hung
+pub mod DueRows
+pub mod Fitting
+pub mod Deletion
+pub mod Parts
+pub mod Cuts
+pub mod Results
+pub mod Told
+pub mod Loop
+pub mod Whole
+pub mod Shaking
+pub mod Endings

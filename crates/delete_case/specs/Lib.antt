@@ -1,0 +1,5 @@
+pub mod Counting
+pub mod Parting
+pub mod Deleted
+pub mod Told
+pub mod inside

@@ -1,0 +1,4 @@
+-- How each step of the code changes the books.
+pub mod Lowering
+pub mod Cutting
+pub mod Clearing
