@@ -1,0 +1,66 @@
+# What the measurements of single changes share. A script sources this after `set -eu`: it makes a temporary folder
+# with the crates of the engine and a program over them, `change_speed`, which makes changes over the tree one by one,
+# as the tests of changes do. The script adds its `main` to "$program/src/main.rt" and calls `measure`.
+root=$(cd "$(dirname "$0")/.." && pwd)
+work=$(mktemp -d)
+trap 'rm -rf "$work"' EXIT
+
+below='vec_record int_metric plain_dbscan items mtree_split mtree_node mtree_index number_map count_book label_book
+    update_seed insert_case chain_growth split_expand delete_case'
+mkdir -p "$work/crates"
+for name in $below; do
+    mkdir "$work/crates/$name"
+    cp -r "$root/crates/$name/src" "$root/crates/$name/specs" "$root/crates/$name/proofs" "$work/crates/$name/"
+    grep "^$name:" "$root/crates.txt" >>"$work/crates.txt"
+done
+cp "$root/HANDLES" "$work/"
+echo "change_speed: $(echo $below)" >>"$work/crates.txt"
+program="$work/crates/change_speed"
+mkdir -p "$program/src" "$program/specs" "$program/proofs"
+touch "$program/specs/Lib.antt"
+
+# The house of the tests, with its proofs.
+cp "$root/crates/change_tests/src/tests/house.rt" "$program/src/"
+cp -r "$root/crates/change_tests/proofs/tests/house" "$program/proofs/house"
+sed -i 's/change_tests\.proofs\.tests\./change_speed.proofs./' $(find "$program/proofs/house" -name '*.antt')
+touch "$program/proofs/Lib.antt"
+
+cat >"$program/src/main.rt" <<'RATTLE'
+//! Times single changes.
+#![tactic(auto)]
+
+mod house;
+
+ghost use Rattle.std.specs.Prelude.{◌≡◌, ◌<◌, ◌≤◌, IfOk, OnOk};
+ghost use Rattle.mtree_index.specs.Tree.{contents};
+ghost use Rattle.update_seed.specs.Books.{Fits};
+
+use crate::house::{House, add, empty_house, take_out};
+use int_metric::{Hamming, L1};
+use mtree_index::MTree;
+use plain_dbscan::RangeIndex;
+use std::alloc::{AllocError, Global};
+use std::io;
+use std::marker::Brand;
+use std::sync::ledger::{Blank, Ledger};
+use std::time::Instant;
+use update_seed::ask;
+use vec_record::{Metric, Number, Numbers, Steps};
+
+// Numbers that look drawn, each made of the one before.
+fn draw(state: &mut u32, limit: u32) -> u32
+    requires { 0 < limit }
+    ensures { result < limit }
+{
+    *state = state.wrapping_mul(1664525).wrapping_add(1013904223);
+    (*state >> 8) % limit
+}
+RATTLE
+
+# Proves, builds and runs the program. Its lines are in "$work/here".
+measure() {
+    (cd "$program" && rt run >/dev/null 2>"$work/log") || { cat "$work/log"; exit 1; }
+    cd "$work"
+    "$program/out/change_speed" >here
+    grep -m1 'model name' /proc/cpuinfo | sed 's/.*: /processor: /'
+}

@@ -1,0 +1,4 @@
+use Rattle.change_tests.proofs.tests.rows.rows.Given as goal
+
+abbrev pub ghosts-plays : goal.ghosts-plays
+ghosts-plays g a = record { name = a.blank.name; parts = a.blank.parts }
