@@ -22,8 +22,30 @@ touch "$program/specs/Lib.antt"
 # The house of the tests, with its proofs.
 cp "$root/crates/change_tests/src/tests/house.rt" "$program/src/"
 cp -r "$root/crates/change_tests/proofs/tests/house" "$program/proofs/house"
-sed -i 's/change_tests\.proofs\.tests\./change_speed.proofs./' $(find "$program/proofs/house" -name '*.antt')
-touch "$program/proofs/Lib.antt"
+cp "$root/crates/change_tests/proofs/Empty.antt" "$program/proofs/"
+sed -i 's/change_tests\.proofs\.tests\./change_speed.proofs./; s/change_tests\.proofs/change_speed.proofs/' \
+    $(find "$program/proofs" -name '*.antt')
+echo 'pub mod Empty' >"$program/proofs/Lib.antt"
+
+# What a loop over a house keeps: the books fit. Called with the name of the function, whose loop is over `number`.
+keeps_fit() {
+    mkdir -p "$program/proofs/$1"
+    cat >"$program/proofs/$1/Invariants.antt" <<ANTT
+use Rattle.update_seed.specs.Books.{Fits}
+use Rattle.change_speed.proofs.$1.Given as goal
+
+abbrev pub invariant-loop-number : goal.invariant-loop-number
+invariant-loop-number g l =
+    Fits (g.I.RangeIndex.width l.house.index) (g.I.RangeIndex.contents l.house.index) l.house.records l.house.counts l.house.labels
+ANTT
+}
+mkdir -p "$program/proofs/main"
+cat >"$program/proofs/main/Invariants.antt" <<'ANTT'
+use Rattle.change_speed.proofs.main.Given as goal
+
+abbrev pub ghosts-run : goal.ghosts-run
+ghosts-run a = record { name = a.blank.name; parts = a.blank.parts }
+ANTT
 
 cat >"$program/src/main.rt" <<'RATTLE'
 //! Times single changes.

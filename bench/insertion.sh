@@ -1,8 +1,8 @@
 #!/bin/sh
 # Time of an insertion into 20,000 records of 8 bytes, with its clusters: 1,000 insertions of bits (Hamming, at most 8
-# of 64) and of sums (at most 24). Beside them, in the same run and over the same tree, the same queries by `range`
-# alone: one at the record and one at each new core. Wants rt. It works in a temporary folder and leaves nothing
-# behind.
+# of 64) and of sums (at most 24). Beside them, in the same run and over the same tree when all are in it, the same
+# queries by `range` alone, one after the other: one at each record and one at each new core. Wants rt. It works in a
+# temporary folder and leaves nothing behind.
 set -eu
 . "$(dirname "$0")/change_setup.sh"
 
@@ -72,15 +72,14 @@ fn cores_below<I>(alloc: Global, house: &House<I>, to: u32) -> Result<Vec<bool>,
     Ok(cores)
 }
 
-// Of the numbers near a record those that are core and weren't, and the record itself.
-fn asked_at<I>(
-    alloc: Global,
+// Notes the record and, of the numbers near it, those that are core and weren't.
+fn note<I>(
     house: &House<I>,
     number: Number,
     near: &[Number],
     cores: &mut Vec<bool>,
-) -> Result<Vec<Number>, AllocError> {
-    let mut asked = Vec::new(alloc);
+    asked: &mut Vec<Number>,
+) -> Result<(), AllocError> {
     asked.push(number)?;
     for i in 0..near.len() {
         let at = near[i] as usize;
@@ -89,15 +88,15 @@ fn asked_at<I>(
             asked.push(near[i])?;
         }
     }
-    Ok(asked)
+    Ok(())
 }
 
 /// Nanoseconds of the insertions and of the same queries alone, and how many queries.
 #[derive(Drop)]
 struct Times {
-    insertions: u64,
-    queries: u64,
-    asked: u64,
+    insertions: u128,
+    queries: u128,
+    asked: usize,
 }
 
 #[derive(Clone, Copy)]
@@ -106,7 +105,7 @@ struct Setting {
     eps: u32,
 }
 
-// Adds 1,000 records more, and asks the same queries again behind each.
+// Adds 1,000 records more, and then asks all the same queries again, one after the other.
 fn more<M: Metric, I: RangeIndex<M>, L: Ledger>(
     rt: &HostRuntime,
     house: &mut House<I>,
@@ -120,23 +119,22 @@ fn more<M: Metric, I: RangeIndex<M>, L: Ledger>(
     let alloc = rt.alloc();
     let mut state = 77;
     let mut near = Numbers::new(alloc);
-    let mut times = Times {
-        insertions: 0,
-        queries: 0,
-        asked: 0,
-    };
+    let mut asked = Vec::new(alloc);
+    let mut insertions = 0u128;
     for number in 20001..21001u32 {
         let bytes = bytes_of(alloc, setting.bits, &mut state)?;
         let start = Instant::now(rt)?;
         let _ = add::<M, I, L>(alloc, house, setting.eps, number, &bytes, steps)?;
-        let took = start.elapsed(rt)?.as_nanos() as u64;
-        times.insertions = times.insertions.wrapping_add(took);
+        insertions = insertions.wrapping_add(start.elapsed(rt)?.as_nanos());
         query::<M, I, L>(house, setting.eps, number, &mut near, steps)?;
-        let asked = asked_at(alloc, house, number, near.as_slice(), cores)?;
-        times.asked = times.asked.wrapping_add(asked.len() as u64);
-        times.queries = times.queries.wrapping_add(ask_all::<M, I, L>(rt, house, setting.eps, &asked, &mut near, steps)?);
+        note(house, number, near.as_slice(), cores, &mut asked)?;
     }
-    Ok(times)
+    let queries = ask_all::<M, I, L>(rt, house, setting.eps, &asked, &mut near, steps)?;
+    Ok(Times {
+        insertions,
+        queries,
+        asked: asked.len(),
+    })
 }
 
 // Nanoseconds of one query at each of these.
@@ -147,7 +145,7 @@ fn ask_all<M: Metric, I: RangeIndex<M>, L: Ledger>(
     asked: &[Number],
     near: &mut Numbers,
     steps: &mut Steps<L>,
-) -> io::Result<u64>
+) -> io::Result<u128>
     requires { Fits (I.width house.now.index) (I.contents house.now.index) house.now.records
         house.now.counts house.now.labels }
 {
@@ -155,35 +153,46 @@ fn ask_all<M: Metric, I: RangeIndex<M>, L: Ledger>(
     for i in 0..asked.len() {
         query::<M, I, L>(house, eps, asked[i], near, steps)?;
     }
-    Ok(start.elapsed(rt)?.as_nanos() as u64)
+    Ok(start.elapsed(rt)?.as_nanos())
 }
 
 // Builds a store of 20,000 records and measures 1,000 more.
-fn run<M: Metric, L: Ledger>(
+fn made<M: Metric, L: Ledger>(
     rt: &HostRuntime,
-    blank: Blank,
     setting: Setting,
-) -> io::Result<Times>
+    steps: &mut Steps<L>,
+) -> io::Result<Times> {
+    let alloc = rt.alloc();
+    let mut house = empty_house::<M>(alloc, 8, 4);
+    fill::<M, MTree<M>, L>(alloc, &mut house, setting, 20001, steps)?;
+    let mut cores = cores_below(alloc, &house, 21001)?;
+    more::<M, MTree<M>, L>(rt, &mut house, setting, &mut cores, steps)
+}
+
+fn run<L: Ledger>(rt: &HostRuntime, blank: Blank, bits: bool) -> io::Result<Times>
     requires name { blank.name ≡ L.name }
     requires parts { blank.parts ≡ L.parts }
     requires some { 0 < blank.parts }
 {
-    let alloc = rt.alloc();
     let mut steps = Steps::<L>::new(rt, blank);
-    let mut house = empty_house::<M>(alloc, 8, 4);
-    fill::<M, MTree<M>, L>(alloc, &mut house, setting, 20001, &mut steps)?;
-    let mut cores = cores_below(alloc, &house, 21001)?;
-    more::<M, MTree<M>, L>(rt, &mut house, setting, &mut cores, &mut steps)
+    if bits {
+        made::<Hamming, L>(rt, Setting { bits, eps: 8 }, &mut steps)
+    } else {
+        made::<L1, L>(rt, Setting { bits, eps: 24 }, &mut steps)
+    }
 }
 
 fn main(rt: HostRuntime) -> io::Result<()> {
-    let bits = run::<Hamming, Brand>(&rt, Blank::new(1), Setting { bits: true, eps: 8 })?;
-    println!(rt; "bits {} {} {}", bits.insertions, bits.queries, bits.asked)?;
-    let sums = run::<L1, Brand>(&rt, Blank::new(1), Setting { bits: false, eps: 24 })?;
-    println!(rt; "sums {} {} {}", sums.insertions, sums.queries, sums.asked)?;
+    for bits in [true, false] {
+        let times = run::<Brand>(&rt, Blank::new(1), bits)?;
+        let name = if bits { "bits" } else { "sums" };
+        println!(rt; "{name} {} {} {}", times.insertions, times.queries, times.asked)?;
+    }
     Ok(())
 }
 RATTLE
 
+keeps_fit fill
+keeps_fit more
 measure
 awk '{ printf "%s: %.1f us an insertion, %.2f of its %.2f queries alone\n", $1, $2 / 1e6, $2 / $3, $4 / 1000 }' here
