@@ -1,0 +1,4 @@
+pub mod Telling
+pub mod Slotted
+pub mod Tallied
+pub mod Rings
