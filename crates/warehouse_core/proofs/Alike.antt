@@ -14,7 +14,7 @@ use Rattle.vec_record.specs.declared.kind.MetricKind.{MetricKind}
 use Rattle.vec_record.specs.declared.kind.MetricKind.TheVariants.{L1, Max, Hamming}
 use Rattle.plain_dbscan.specs.declared.marks.Mark.TheVariants.{Core, Border}
 use Rattle.plain_dbscan.specs.Chains.{label_of}
-use Rattle.plain_dbscan.specs.Marks.{Density, density, Entries, numbers_of, within, is_near, is_core, cluster_of, anchor_of, outer_mark, mark_of, marks_of}
+use Rattle.plain_dbscan.specs.Marks.{Density, density, Entries, numbers_of, within, is_near, is_core, near_of, cluster_of, anchor_of, outer_mark, mark_of, marks_of}
 use Rattle.page_layout.specs.Heads.{Values}
 use Rattle.store_image.specs.Placing.{CanStand}
 use Rattle.warehouse_core.specs.Batches.{density_by}
@@ -59,13 +59,19 @@ within_alike d e None p eps dist = refl
 within_alike d e (Some u) None eps dist = refl
 within_alike d e (Some u) (Some v) eps dist = λ i. nat_le (dist u v refl refl i) (eps i)
 
--- so a distance that is that of the metric, over vectors of the width, gives the marks by the metric
-pub marks_by : (v : Values) (es : Entries) (dist : List ℕ → List ℕ → ℕ) → AllByRecursion (CanStand v) es
-    → ((a b : List ℕ) → IsVector (width_of v.metric v.dim) a → IsVector (width_of v.metric v.dim) b → dist a b ≡ distance_of v.metric a b) → marks_of (density dist v.eps v.minpts) es ≡ marks_of (density_by v) es
-marks_by v es dist all law =
-    marks_alike (density dist v.eps v.minpts) (density_by v) es (λ a b.
-    within_alike (density dist v.eps v.minpts) (density_by v) (value_at nat_cmp a es) (value_at nat_cmp b es) refl (λ x y is_x is_y.
-    law x y (found_so (CanStand v) es a x all is_x).vector (found_so (CanStand v) es b y all is_y).vector)) refl
+-- so a distance that is that of the metric, over vectors of the width, gives what is near, and the marks, by the metric
+module _ (v : Values) (es : Entries) (dist : List ℕ → List ℕ → ℕ) (all : AllByRecursion (CanStand v) es)
+    (law : (a b : List ℕ) → IsVector (width_of v.metric v.dim) a → IsVector (width_of v.metric v.dim) b → dist a b ≡ distance_of v.metric a b) where
+  is_near_by : (a b : ℕ) → is_near (density dist v.eps v.minpts) es a b ≡ is_near (density_by v) es a b
+  is_near_by a b =
+      within_alike (density dist v.eps v.minpts) (density_by v) (value_at nat_cmp a es) (value_at nat_cmp b es) refl (λ x y is_x is_y.
+      law x y (found_so (CanStand v) es a x all is_x).vector (found_so (CanStand v) es b y all is_y).vector)
+
+  pub near_by : (a : ℕ) → near_of (density dist v.eps v.minpts) es a ≡ near_of (density_by v) es a
+  near_by a i = filter (λ b. is_near_by a b i) (numbers_of es)
+
+  pub marks_by : marks_of (density dist v.eps v.minpts) es ≡ marks_of (density_by v) es
+  marks_by = marks_alike (density dist v.eps v.minpts) (density_by v) es is_near_by refl
 
 -- the width of lawful parameters
 dim_within : (m : MetricKind) (dim eps minpts cap : ℕ) → are_within m dim eps minpts cap ≡ true → (1 ≤ dim) × (dim ≤ greatest_dim m)

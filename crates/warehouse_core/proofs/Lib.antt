@@ -5,3 +5,4 @@ pub mod Alike
 pub mod Applied
 pub mod Accepted
 pub mod Numbered
+pub mod Walks

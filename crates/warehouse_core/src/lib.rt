@@ -9,6 +9,7 @@ mod changing;
 mod clustering;
 mod judging;
 pub mod laws;
+mod near;
 mod queries;
 mod receipt;
 pub mod refusal;

@@ -5,6 +5,7 @@ ghost use Rattle.site_disk.specs.Memory.{told};
 ghost use Rattle.page_gate.specs.Promises.{Holds};
 
 use crate::{Refusal, Warehouse};
+use cluster_report::Summary;
 use int_metric::L1;
 use page_gate::{Pages, open_pages};
 use plain_dbscan::{Mark, Marks};
@@ -266,7 +267,7 @@ fn is_listed(marks: Result<Marks, AllocError>, want: &[(Number, Mark)]) -> bool 
     }
 }
 
-/// Whether the marks of a store are these, by each query.
+/// Whether the marks of a store are these, by each query of marks.
 fn has_marks(warehouse: &Warehouse<L1>) -> bool
     requires { warehouse.now.failed ≡ false }
 {
@@ -279,7 +280,27 @@ fn has_marks(warehouse: &Warehouse<L1>) -> bool
         Ok(None) => true,
         _ => false,
     };
-    one && members && none && is_listed(warehouse.marks(), &MARKS_BETWEEN)
+    let summary = Summary {
+        records: 7,
+        cores: 2,
+        borders: 5,
+        noise: 0,
+        clusters: 2,
+    };
+    one && members
+        && none
+        && warehouse.summary() == summary
+        && is_listed(warehouse.marks(), &MARKS_BETWEEN)
+}
+
+/// Whether the neighbourhoods are those of the store: 8 is absent, and leaves the list alone.
+fn has_near<L: Ledger>(alloc: Global, warehouse: &Warehouse<L1>, steps: &mut Steps<L>) -> bool
+    requires { warehouse.now.failed ≡ false }
+{
+    let mut near = Numbers::new(alloc);
+    let found = warehouse.near(7, &mut near, steps);
+    let absent = warehouse.near(8, &mut near, steps);
+    found == Ok(true) && absent == Ok(false) && near.as_slice() == [3, 4, 7].as_slice()
 }
 
 fn marks_between_with<L: Ledger>(rt: &HostRuntime, site: &mut MemSite, blank: Blank) -> bool
@@ -290,7 +311,11 @@ fn marks_between_with<L: Ledger>(rt: &HostRuntime, site: &mut MemSite, blank: Bl
     let alloc = rt.alloc();
     let mut steps = Steps::<L>::new(rt, blank);
     match opened(alloc, site, &mut steps) {
-        Some(warehouse) => has_marks(&warehouse) && warehouse.batches() == 2,
+        Some(warehouse) => {
+            has_marks(&warehouse)
+                && has_near(alloc, &warehouse, &mut steps)
+                && warehouse.batches() == 2
+        }
         None => false,
     }
 }

@@ -1,11 +1,12 @@
 //! The warehouse.
 
-ghost use Rattle.std.specs.Prelude.{◌≡◌, ◌≤◌, ◌<◌, ◌⊎◌, ℕ, List, Bool, true, false, [], ◌∷◌, ◌++◌};
+ghost use Rattle.std.specs.Prelude.{◌≡◌, ◌≤◌, ◌<◌, ◌+◌, ◌*◌, ◌⊎◌, ℕ, List, Bool, true, false, [], ◌∷◌, ◌++◌};
 ghost use Rattle.std.specs.Prelude.{Ok, Err, None, length, IsTrue, IsOk, IsErr, IfOk, OnOk, OnErr};
 ghost use Rattle.std.specs.Prelude.{IfErr, MatchResult};
 ghost use Rattle.site_disk.specs.Causes.{Rose};
 ghost use Rattle.page_gate.specs.Promises.{Holds};
 ghost use Rattle.std.specs.List.{AllByRecursion};
+ghost use Rattle.std.specs.FinMap as map;
 ghost use Rattle.batch_text.specs.After.{after};
 ghost use Rattle.batch_text.specs.Batch.{IsChangeOf, IsSpelledChange};
 ghost use Rattle.store_image.specs.Loading.{load_of, params_in_pages, Fails};
@@ -13,17 +14,20 @@ ghost use Rattle.vec_record.specs.Limits.{width_of};
 ghost use Rattle.page_layout.specs.Heads.{Values, values_of};
 ghost use Rattle.warehouse_core.specs.Batches.{marks_on};
 ghost use Rattle.warehouse_core.specs.States.{State, LoadsAs};
-ghost use Rattle.warehouse_core.specs.Queries.{mark_on, members_of};
+ghost use Rattle.cluster_report.specs.Counts.{summary_of};
+ghost use Rattle.warehouse_core.specs.Queries.{mark_on, members_of, near_on};
 ghost use Rattle.warehouse_core.specs.Applying.{Accepts, IsRefusedBy, Steps as BatchSteps, due};
 ghost use Rattle.warehouse_core.specs.Applying.{is_numbered};
 
 use crate::changing::apply_changes;
 use crate::clustering::cluster;
 use crate::judging::judge;
+use crate::near::near_record;
 use crate::queries::{copied, members_of};
 use crate::receipt::{count_deletions, count_insertions, receipt};
 use crate::refusal::Refusal;
 use crate::saving::save;
+use cluster_report::{Summary, count_marks};
 use page_gate::Pages;
 use plain_dbscan::{Mark, Marks, find_mark};
 use site_disk::Site;
@@ -32,7 +36,7 @@ use std::marker::{Model, PhantomData};
 use std::sync::ledger::Ledger;
 use store_image::laws::loads_are_stores;
 use store_image::{Loaded, StoreFault};
-use vec_record::{Bytes, Changes, Metric, Number, Params, Records, Steps};
+use vec_record::{Bytes, Changes, Metric, Number, Numbers, Params, Records, Steps};
 
 /// Records, their marks and their store.
 #[derive(Drop)]
@@ -258,5 +262,40 @@ impl<M: Metric> Warehouse<M> {
             ≡ members_of label (marks_on self.now.values self.now.rows)) }
     {
         members_of(self.alloc, self.marks.as_slice(), label)
+    }
+
+    /// Gives in `out`, in place of what it held, the numbers near a record, rising, itself among
+    /// them. It answers false exactly where the number is absent, which takes no memory; after
+    /// false and after want of memory `out` is as before.
+    pub fn near<L: Ledger>(
+        &self,
+        number: Number,
+        out: &mut Numbers,
+        steps: &mut Steps<L>,
+    ) -> Result<bool, AllocError>
+        requires { self.now.failed ≡ false }
+        ensures found { IfOk result (λ found. found ≡ map.contains_key self.now.rows number) }
+        ensures near { result ≡ Ok true → out.new ≡ near_on self.now.values self.now.rows number }
+        ensures absent { result ≡ Ok false → out.new ≡ out.old }
+        ensures err { OnErr result (map.contains_key self.now.rows number ≡ true) }
+        ensures kept { OnErr result (out.new ≡ out.old) }
+        ensures most { steps.new ≤ steps.old + 2 * map.len self.now.rows }
+    {
+        let params = &self.state.head.params;
+        match near_record::<M, L>(self.alloc, params, &self.state.records, number, steps)? {
+            None => Ok(false),
+            Some(near) => {
+                *out = near;
+                Ok(true)
+            }
+        }
+    }
+
+    /// The counts of all marks, in one pass that takes no memory.
+    pub fn summary(&self) -> Summary
+        requires { self.now.failed ≡ false }
+        ensures { result ≡ summary_of (marks_on self.now.values self.now.rows) }
+    {
+        count_marks(self.marks.as_slice())
     }
 }
