@@ -1,6 +1,7 @@
 -- What one batch does to a warehouse and to its site.
 use Rattle.std.specs.Prelude.{◌≡◌, ◌⊎◌, ℕ, ◌+◌, ◌++◌, Bool, true, false, List, [], length, drop, Result, Ok, Err, IfErr}
 use Rattle.vec_record.specs.declared.change.Change.{Change}
+use Rattle.vec_record.specs.declared.event.Event.{Event}
 use Rattle.site_disk.specs.State.{SiteState, Safe}
 use Rattle.vec_record.specs.Held.{Rows}
 use Rattle.page_layout.specs.Heads.{Values}
@@ -30,6 +31,14 @@ is_numbered Memory = false
 -- what is due to a body over a warehouse
 abbrev pub due : State → List ℕ → Result (List Change) Refusal
 due w body = outcome w.values w.batches w.rows body
+
+-- the events of what is due to a body; a refused batch has none
+abbrev pub events_unless_refused : Values → Rows → Result (List Change) Refusal → List Event
+events_unless_refused v rows (Ok changes) = events_of v rows changes
+events_unless_refused v rows (Err refusal) = []
+
+abbrev pub events_due : State → List ℕ → List Event
+events_due w body = events_unless_refused w.values w.rows (due w body)
 
 -- what is due to a body is never a fault of the site and never want of memory
 abbrev pub DueAreNumbered : Type 0

@@ -2,7 +2,8 @@
 //!
 //! It stands on every layer below the top call. [`Warehouse::apply`] takes a batch as one step:
 //! refused with everything as it was, or committed whole; at every moment of the call a crash
-//! leaves the store before the batch or the one after it.
+//! leaves the store before the batch or the one after it. The feed is told the events of each batch
+//! that is accepted, after its commit.
 #![tactic(auto)]
 
 mod changing;

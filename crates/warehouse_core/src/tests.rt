@@ -6,6 +6,7 @@ ghost use Rattle.page_gate.specs.Promises.{Holds};
 
 use crate::{Refusal, Warehouse};
 use cluster_report::Summary;
+use event_feed::{Tally, WatcherSlots};
 use int_metric::L1;
 use page_gate::{Pages, open_pages};
 use plain_dbscan::{Mark, Marks};
@@ -147,6 +148,13 @@ fn opened<L: Ledger>(
     }
 }
 
+/// A feed without a slot.
+fn unheard(alloc: Global) -> WatcherSlots<Tally> {
+    WatcherSlots {
+        slots: Vec::new(alloc),
+    }
+}
+
 /// Whether a batch over a store gives what is due to it.
 fn is_due<L: Ledger>(
     alloc: Global,
@@ -162,7 +170,8 @@ fn is_due<L: Ledger>(
         return false;
     }
     let mut out = Bytes::new(alloc);
-    match warehouse.apply(site, body, &mut out, steps) {
+    let mut feed = unheard(alloc);
+    match warehouse.apply(site, &mut feed, body, &mut out, steps) {
         Ok(()) => batch
             .1
             .is_ok_and(|receipt| out.as_slice() == receipt.as_bytes()),
@@ -368,7 +377,8 @@ fn ends_well<L: Ledger>(alloc: Global, site: &mut MemSite, steps: &mut Steps<L>)
         return true;
     };
     let mut out = Bytes::new(alloc);
-    match warehouse.apply(site, b"+,1,0\n", &mut out, steps) {
+    let mut feed = unheard(alloc);
+    match warehouse.apply(site, &mut feed, b"+,1,0\n", &mut out, steps) {
         Ok(()) => out.len() > 0 && !warehouse.failed(),
         Err(refusal) => refusal == Refusal::SiteFault && out.len() == 0 && warehouse.failed(),
     }

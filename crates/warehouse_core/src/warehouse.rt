@@ -1,6 +1,7 @@
 //! The warehouse.
 
-ghost use Rattle.std.specs.Prelude.{◌≡◌, ◌≤◌, ◌<◌, ◌+◌, ◌*◌, ◌⊎◌, ℕ, List, Bool, true, false, [], ◌∷◌, ◌++◌};
+ghost use Rattle.std.specs.Prelude.{◌≡◌, ◌≤◌, ◌<◌, ◌⊎◌, ℕ, List, Bool, true, false, [], ◌∷◌, ◌++◌};
+ghost use Rattle.std.specs.Prelude.{◌+◌, ◌*◌};
 ghost use Rattle.std.specs.Prelude.{Ok, Err, None, length, IsTrue, IsOk, IsErr, IfOk, OnOk, OnErr};
 ghost use Rattle.std.specs.Prelude.{IfErr, MatchResult};
 ghost use Rattle.site_disk.specs.Causes.{Rose};
@@ -12,12 +13,13 @@ ghost use Rattle.batch_text.specs.Batch.{IsChangeOf, IsSpelledChange};
 ghost use Rattle.store_image.specs.Loading.{load_of, params_in_pages, Fails};
 ghost use Rattle.vec_record.specs.Limits.{width_of};
 ghost use Rattle.page_layout.specs.Heads.{Values, values_of};
-ghost use Rattle.warehouse_core.specs.Batches.{marks_on};
+ghost use Rattle.event_feed.specs.Meanings.{meanings, told_all};
+ghost use Rattle.warehouse_core.specs.Batches.{events_of, marks_on};
 ghost use Rattle.warehouse_core.specs.States.{State, LoadsAs};
 ghost use Rattle.cluster_report.specs.Counts.{summary_of};
 ghost use Rattle.warehouse_core.specs.Queries.{mark_on, members_of, near_on};
 ghost use Rattle.warehouse_core.specs.Applying.{Accepts, IsRefusedBy, Steps as BatchSteps, due};
-ghost use Rattle.warehouse_core.specs.Applying.{is_numbered};
+ghost use Rattle.warehouse_core.specs.Applying.{events_due, is_numbered};
 
 use crate::changing::apply_changes;
 use crate::clustering::cluster;
@@ -28,6 +30,7 @@ use crate::receipt::{count_deletions, count_insertions, receipt};
 use crate::refusal::Refusal;
 use crate::saving::save;
 use cluster_report::{Summary, count_marks};
+use event_feed::{Watcher, WatcherSlots};
 use page_gate::Pages;
 use plain_dbscan::{Mark, Marks, find_mark};
 use site_disk::Site;
@@ -96,10 +99,12 @@ impl<M: Metric> Warehouse<M> {
     ///
     /// Refusals other than `SiteFault` and `Memory` are decided before anything is changed, and
     /// leave all as it was. After those two the warehouse has failed: after `SiteFault` the store
-    /// has the batch wholly or not at all, after `Memory` not at all.
-    pub fn apply<T: Site, L: Ledger>(
+    /// has the batch wholly or not at all, after `Memory` not at all. The feed is told the events
+    /// of an accepted batch after the commit, which takes no memory; a refusal tells it nothing.
+    pub fn apply<T: Site, W: Watcher, L: Ledger>(
         &mut self,
         site: &mut T,
+        feed: &mut WatcherSlots<W>,
         body: &[u8],
         out: &mut Bytes,
         steps: &mut Steps<L>,
@@ -112,6 +117,12 @@ impl<M: Metric> Warehouse<M> {
         // Ok is for a batch that is accepted, and only that.
         ensures ok { OnOk result (Accepts body.now self.old self.new out.old out.new) }
         ensures ready { IsTrue T.tells → OnOk result (Holds self.new.pages (T.state site.new)) }
+
+        // The feed is told exactly the events of an accepted batch.
+        ensures told { OnOk result (meanings W.says_after feed.new.slots.items
+            ≡ told_all (events_due self.old body.now)
+            (meanings W.says_after feed.old.slots.items)) }
+        ensures untold { OnErr result (feed.new ≡ feed.old) }
 
         // A refusal with a number is the one that is due, and leaves all as it was.
         ensures refused { IfErr result (λ e. is_numbered e ≡ true → due self.old body.now ≡ Err e) }
@@ -143,7 +154,7 @@ impl<M: Metric> Warehouse<M> {
         let params = self.state.head.params;
         let batches = self.state.head.batches;
         match judge(self.alloc, &params, batches, &self.state.records, body) {
-            Ok(changes) => self.accept(site, changes, out, steps),
+            Ok(changes) => self.accept(site, feed, changes, out, steps),
             Err(refusal) => {
                 if refusal == Refusal::Memory {
                     self.failed = true;
@@ -153,10 +164,11 @@ impl<M: Metric> Warehouse<M> {
         }
     }
 
-    /// Takes the changes of an accepted batch in, and saves them.
-    fn accept<T: Site, L: Ledger>(
+    /// Takes the changes of an accepted batch in, saves them, and tells the feed their events.
+    fn accept<T: Site, W: Watcher, L: Ledger>(
         &mut self,
         site: &mut T,
+        feed: &mut WatcherSlots<W>,
         changes: Changes,
         out: &mut Bytes,
         steps: &mut Steps<L>,
@@ -173,6 +185,10 @@ impl<M: Metric> Warehouse<M> {
         ensures ok { OnOk result
             ((body : List ℕ) → due self.old body ≡ Ok changes
             → Accepts body self.old self.new out.old out.new) }
+        ensures told { OnOk result (meanings W.says_after feed.new.slots.items
+            ≡ told_all (events_of self.old.values self.old.rows changes)
+            (meanings W.says_after feed.old.slots.items)) }
+        ensures untold { OnErr result (feed.new ≡ feed.old) }
         ensures ready { IsTrue T.tells → OnOk result (Holds self.new.pages (T.state site.new)) }
         ensures text { OnErr result (out.new ≡ out.old) }
         ensures err { IfErr result (λ e. is_numbered e ≡ false) }
@@ -199,6 +215,7 @@ impl<M: Metric> Warehouse<M> {
         let line = receipt(alloc, batch, insertions, deletions, events.as_slice())?;
         let pages = &mut self.pages;
         save(alloc, site, pages, &mut self.state, line.as_slice(), out)?;
+        feed.tell_all(&events);
         self.failed = false;
         Ok(())
     }

@@ -1,6 +1,10 @@
 use Rattle.std.proofs.Common.{◌∙◌, ◌++◌, ◌+◌, ℕ, List, ap, count_by}
 use Rattle.std.proofs.lemmas.Result.{err_from_is_err_and}
+use Rattle.vec_record.specs.declared.event.Event.{Event}
+use Rattle.event_feed.specs.Meanings.{meanings, told_all}
+use Rattle.warehouse_core.specs.Batches.{events_of}
 use Rattle.warehouse_core.specs.Receipts.{is_deletion, is_insertion}
+use Rattle.warehouse_core.specs.States.{State}
 use Rattle.warehouse_core.proofs.Accepted.{accepts, counted_receipt, saved_steps}
 use Rattle.warehouse_core.proofs.Moments.{stands, unwritten}
 use Rattle.warehouse_core.proofs.warehouse.Warehouse.accept.Goals as goal
@@ -30,6 +34,11 @@ returns-clause-ok g c = λ body accepted.
     (c.count_insertions-insertions.ensures ∙ ap (count_by is_insertion) c.as_slice.ensures) (c.count_deletions-deletions.ensures ∙ ap (count_by is_deletion) c.as_slice-2.ensures) (c.as_slice-3.ensures ∙ taken.events) in
     accepts c.args.changes c.self.inside.state c.save.new.state c.self.inside.pages.list c.save.new.pages.list c.apply_changes.new.records standing.loads taken.records saved.pages saved.loads saved.records saved.values saved.batches
     _ c.args.out.now c.save.new.out (saved.text ∙ ap (λ (l : List ℕ). c.args.out.now ++ l) (c.as_slice-4.ensures ∙ line)) c.self.inside.stored c.args.self.now body c.self.view_is c.requires.stored accepted
+
+pub returns-clause-told : goal.returns-clause-told
+returns-clause-told g c =
+    let before = meanings g.W.Watcher.says_after c.args.feed.now.slots.items in
+    c.tell_all.ensures ∙ ap (λ (events : List Event). told_all events before) (c.in_ok-events.ensures.events ∙ ap (λ (w : State). events_of w.values w.rows c.args.changes) c.self.view_is)
 
 pub returns-clause-moments : goal.returns-clause-moments
 returns-clause-moments g c = λ told body accepted.
