@@ -14,7 +14,7 @@ use Rattle.label_book.proofs.Taken.{removed_same, removed_other}
 use Rattle.update_seed.specs.Books.{IsHeld, Fits, StandsFor, near_in, all_near}
 use Rattle.update_seed.specs.Price.{QueryCost, cost_at}
 use Rattle.delete_case.specs.Deleted.{without, vector_at, IsPaid}
-use Rattle.delete_case.specs.Told.{IsTold}
+use Rattle.delete_case.specs.Told.{AreEventsTold}
 use Rattle.delete_case.specs.inside.Clearing.{IsTaken, IsAround, IsNext, IsCleared, IsPaidAway}
 use Rattle.delete_case.proofs.Gone.{around_once, around_there, around_other, apart_from}
 use Rattle.delete_case.proofs.Whole.{is_next, deletion_fits, minpts_kept, deletion_stands, deletion_told, deletion_paid}
@@ -80,8 +80,9 @@ module _ (dist : List ℕ → List ℕ → ℕ) (eps : ℕ) (width width' : ℕ)
       ends_stand least stood = subst (λ (r : Held). StandsFor (density dist eps counts.minpts) width' contents' r new labels') (sym same)
           (deletion_stands dist eps width contents records p v at wide back itself around found_rest counts labels stood new labels' out out' done_without width' contents' (fit least))
 
-      pub ends_told : StandsFor (density dist eps counts.minpts) width contents records counts labels → IsTold (density dist eps counts.minpts) records p out out'
-      ends_told stood = deletion_told dist eps width contents records p v at wide back itself around found_rest counts labels stood new labels' out out' done_without
+      pub ends_told : StandsFor (density dist eps counts.minpts) width contents records counts labels → AreEventsTold (density dist eps counts.minpts) records.vectors records'.vectors out out'
+      ends_told stood = subst (λ (r : Held). AreEventsTold (density dist eps counts.minpts) records.vectors r.vectors out out') (sym same)
+          (deletion_told dist eps width contents records p v at wide back itself around found_rest counts labels stood new labels' out out' done_without)
 
   pub ends_paid : (around : List ℕ) → around ≡ near dist contents' v eps → StandsFor (density dist eps counts.minpts) width contents records counts labels → (cost cost' : QueryCost) (first third last : ℕ) → IsTaken cost cost' v eps first third
       → IsPaidAway (near_in dist eps records') (cost_at cost' records' eps) p around counts labels third last → IsPaid (density dist eps counts.minpts) cost cost' records p first last

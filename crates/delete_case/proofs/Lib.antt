@@ -10,7 +10,9 @@ pub mod Deletion
 pub mod Parts
 pub mod Cuts
 pub mod Results
+pub mod Across
 pub mod Told
+pub mod Lengths
 pub mod Loop
 pub mod Whole
 pub mod Shaking

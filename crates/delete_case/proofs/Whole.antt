@@ -1,5 +1,5 @@
 -- A deletion as a whole: the books fit and stand after it, and it was paid.
-use Rattle.std.proofs.Common.{◌≡◌, ℕ, ◌+◌, ◌≤◌, Bool, true, false, List, [], IsSome, is_some, refl, sym, ap, subst, ◌∙◌, None, Some, inl, inr, sum_by, arith}
+use Rattle.std.proofs.Common.{◌≡◌, ℕ, ◌+◌, ◌≤◌, Bool, true, false, List, [], ◌++◌, IsSome, is_some, refl, sym, ap, subst, ◌∙◌, None, Some, inl, inr, sum_by, arith}
 use Rattle.std.specs.Prelude.{unwrap_or}
 use Rattle.std.specs.declared.option.Option.{Option}
 use Rattle.std.specs.FinMap as map
@@ -19,11 +19,12 @@ use Rattle.delete_case.specs.Deleted.{without, vector_at, IsGrownOf, outer_asked
 use Rattle.delete_case.specs.Parting.{AreAllParted}
 use Rattle.delete_case.specs.inside.Clearing.{IsTaken, IsAround, IsNext, AreThere, IsShaken, IsQuiet, IsCleared, IsPaidAway}
 use Rattle.delete_case.proofs.Fitting.{core_row, counted_there, hung_core, core_hung, hung_there, hung_row, lost_no_core, counted_numbers, cores_there, are_out, fits_after, labels_keep, are_partable}
+use Rattle.delete_case.proofs.Gone.{changes}
 use Rattle.delete_case.proofs.Hung.{hung_none}
 use Rattle.delete_case.proofs.DueRows.{rows_due}
 use Rattle.delete_case.proofs.Deletion.{former_of, labels_after, grown_cost, outer_cost, lost_cost}
-use Rattle.delete_case.specs.Told.{IsTold}
-use Rattle.delete_case.proofs.Told.{labels_in, declines_are, lost_are}
+use Rattle.delete_case.specs.Told.{AreEventsTold}
+use Rattle.delete_case.proofs.Told.{told_due}
 use Rattle.delete_case.proofs.Parts.{parted_none, append_none}
 
 -- nothing more was done: as if there were no former clusters, and nothing hung
@@ -132,15 +133,14 @@ module _ (dist : List ℕ → List ℕ → ℕ) (eps : ℕ) (width : ℕ) (conte
     labels_now : AreLabelsDue (density dist eps counts.minpts) (map.entries (without records p).vectors) labels'
     labels_now = labels_after dist eps counts.minpts records.width records.vectors p v at wide back itself around found counts c.counted c.lost labels stood.rows refl c.out_are stood.labels_due end.list end.former labels' end.parted
 
-    pub deletion_told : IsTold (density dist eps counts.minpts) records p out out'
-    deletion_told = record {
-      labels = labels_in end.list;
-      told = end.told.0;
-      lost = lost_are (density dist eps counts.minpts) (map.entries records.vectors) (map.entries (without records p).vectors) labels labels' stood.labels_due labels_now end.list
-          (former_of dist eps counts.minpts records.width records.vectors p v at wide back itself around found counts c.counted c.lost labels stood.rows refl c.out_are stood.labels_due end.list end.former) end.former.rising;
-      declines = declines_are (density dist eps counts.minpts) (map.entries records.vectors) (map.entries (without records p).vectors) labels labels' stood.labels_due labels_now end.list end.told.0 end.told.1;
-      appended = end.told.2;
-    }
+    pub deletion_told : AreEventsTold (density dist eps counts.minpts) records.vectors (without records p).vectors out out'
+    deletion_told =
+        end.told.2
+        ∙ ap (λ (es : List Event). out ++ es)
+        (told_due (density dist eps counts.minpts) (map.entries records.vectors) (map.entries (without records p).vectors) (map.entries_sorted records.vectors) (map.entries_sorted (without records p).vectors)
+        (changes dist eps counts.minpts records.width records.vectors p v at wide back).within.cores labels labels' stood.labels_due labels_now end.list
+        (former_of dist eps counts.minpts records.width records.vectors p v at wide back itself around found counts c.counted c.lost labels stood.rows refl c.out_are stood.labels_due end.list end.former) end.former.rising
+        end.told.0 end.told.1)
 
   -- what the steps after the index cost
   outer_paid : (cost : ℕ → ℕ) (steps steps' : ℕ) → IsPaidAway near' cost p around counts labels steps steps' → (grown : List ℕ)

@@ -9,7 +9,7 @@ ghost use Rattle.update_seed.specs.Books.{Fits, StandsFor, IsHeld, near_in, all_
 ghost use Rattle.update_seed.specs.Price.{cost_at};
 ghost use Rattle.update_seed.specs.Outgoing.{AreOut};
 ghost use Rattle.delete_case.specs.Deleted.{without, vector_at, IsPaid, IsCheap};
-ghost use Rattle.delete_case.specs.Told.{IsTold};
+ghost use Rattle.delete_case.specs.Told.{AreEventsTold, AreCasesTold};
 ghost use Rattle.delete_case.specs.inside.Clearing.{IsAround, IsNext, AreThere, ArePartableBy};
 ghost use Rattle.delete_case.specs.inside.Clearing.{IsTaken, IsShaken, IsCleared};
 ghost use Rattle.delete_case.specs.inside.Clearing.{IsSpentAfter, IsPaidAway};
@@ -62,8 +62,12 @@ pub fn delete_change<M: Metric, I: RangeIndex<M>, L: Ledger>(
         (I.contents index.new) records.new counts.new labels.new) }
     ensures told { StandsFor (density M.dist eps counts.old.minpts) (I.width index.old)
         (I.contents index.old) records.old counts.old labels.old
-        → OnOk result (IsTold (density M.dist eps counts.old.minpts) records.old number
-        out.old out.new) }
+        → OnOk result (AreEventsTold (density M.dist eps counts.old.minpts) records.old.vectors
+        records.new.vectors out.old out.new) }
+    ensures cases { StandsFor (density M.dist eps counts.old.minpts) (I.width index.old)
+        (I.contents index.old) records.old counts.old labels.old
+        → OnOk result (AreCasesTold (density M.dist eps counts.old.minpts) records.old.vectors
+        records.new.vectors out.old out.new) }
     ensures price { StandsFor (density M.dist eps counts.old.minpts) (I.width index.old)
         (I.contents index.old) records.old counts.old labels.old
         → OnOk result (IsPaid (density M.dist eps counts.old.minpts) (I.cost index.old)

@@ -7,6 +7,7 @@ use Rattle.label_book.proofs.Taken.{not_absent}
 use Rattle.plain_dbscan.specs.Marks.{density}
 use Rattle.delete_case.specs.Deleted.{vector_at, IsPaid, IsCheap}
 use Rattle.delete_case.proofs.Endings.{vector_is, still_held, about, next_steps, ends_minpts, ends_fit, ends_stand, ends_told, ends_paid}
+use Rattle.delete_case.proofs.Lengths.{told_cases}
 use Rattle.delete_case.proofs.Results.{on_err}
 use Rattle.delete_case.proofs.deleting.delete_change.Goals as goal
 
@@ -290,6 +291,10 @@ returns-clause-told g c stood =
     let same = c.remove.ensures.rest in
     let law = g.met.I.RangeIndex.removes old new p v c.in_ok-around.ensures.removed in
     ends_told dist eps (g.I.RangeIndex.width old) (g.I.RangeIndex.width new) (g.I.RangeIndex.contents old) (g.I.RangeIndex.contents new) records c.remove.new.self p v same at wide back itself counts labels fits law c.in_ok-around.around c.in_ok-around.ensures.found c.clear_away.new.counts c.clear_away.new.labels c.args.out.now c.clear_away.new.out c.in_ok-clear_away.ensures.done stood
+
+pub returns-clause-cases : goal.returns-clause-cases
+returns-clause-cases g c stood =
+    told_cases (density g.M.Metric.dist c.args.eps c.args.counts.now.minpts) c.args.records.now c.remove.new.self c.args.number c.remove.ensures.rest c.args.out.now c.clear_away.new.out (returns-clause-told g c stood)
 
 pub returns-clause-price : goal.returns-clause-price
 returns-clause-price g c stood =
