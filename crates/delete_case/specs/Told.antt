@@ -12,7 +12,7 @@ AreEventsTold d rows rows' before after =
     let told = deletion_events (marks_of d (map.entries rows)) (marks_of d (map.entries rows')) in
     after ≡ before ++ told
 
--- What is told is exactly the events of the change, by the marks before and after.
+-- The same by the one rule for every change, be it an insertion or a deletion.
 abbrev pub AreCasesTold : Density → Rows → Rows → List Event → List Event → Type 0
 AreCasesTold d rows rows' before after =
     after ≡ before ++ cases_of (marks_of d (map.entries rows)) (marks_of d (map.entries rows'))

@@ -3,7 +3,7 @@
 //! It stands on `vec_record`, on the definitions and the index of `plain_dbscan`, on the two books,
 //! on `update_seed` and on `split_expand`. [`delete_change`] is promised to lead from books and an
 //! index that fit the records, or stand for them, to such for the records without the one, at no
-//! more than the price of the deletion.
+//! more than the price of the deletion, and to tell exactly its events.
 #![tactic(auto)]
 
 mod counting;
