@@ -1,15 +1,14 @@
 -- The groups of one former cluster.
 use Rattle.std.proofs.Common.{◌≡◌, ℕ, zero, suc, ◌<◌, ◌≤◌, Bool, List, [], ◌∷◌, length, refl, sym, subst, ◌∙◌, Some, slice_get, arith}
-use Rattle.std.specs.Prelude.{filter}
 use Rattle.vec_record.specs.Held.{Held}
 use Rattle.plain_dbscan.specs.Chains.{Joined}
 use Rattle.plain_dbscan.proofs.Chains.{joined_on, joined_back}
 use Rattle.count_book.specs.Counted.{Counted}
-use Rattle.label_book.specs.Labels.{Labels, IsMember, HasNoMember, AreMembers}
+use Rattle.label_book.specs.Labels.{Labels, IsMember}
 use Rattle.label_book.proofs.Views.{same_value, no_value}
 use Rattle.update_seed.specs.declared.former.Former.{Former}
 use Rattle.update_seed.specs.Books.{core_in}
-use Rattle.update_seed.proofs.Lists.{none, no_members, in_filter, to_filter}
+use Rattle.update_seed.proofs.Lists.{none, no_members}
 use Rattle.chain_growth.proofs.Views.{union_as, seeds_as, grown_as}
 use Rattle.split_expand.specs.Split.{AreCoresIn, AreAmong, AreGroupsOf, AreSeeded, IsSplit, IsPaid}
 use Rattle.delete_case.specs.Parting.{CoresAreThere, IsPartable, Remains, IsSeeded}
@@ -118,13 +117,3 @@ module _ (counts : Counted) (near : ℕ → ℕ → Bool) (labels : Labels) (f :
 
     pub seeds_among : AreAmong members f.seeds
     seeds_among q m = let h = p.seeds_in q m in back q (core_tested counts q h.0, h.1)
-
--- what remains of the members
-pub remaining_cores : (core : ℕ → Bool) (labels : Labels) (l : ℕ) (members cores : List ℕ) → AreMembers labels l members → cores ≡ filter core members → AreRemaining core labels l cores
-remaining_cores core labels l members cores are is a = (
-  (λ m. let h = in_filter core members a (subst (λ (xs : List ℕ). IsMember xs a) is m) in (h.1, (are.exact a).0 h.0)),
-  (λ r. subst (λ (xs : List ℕ). IsMember xs a) (sym is) (to_filter core members a ((are.exact a).1 r.1) r.0)),
-)
-
-pub none_remain : (core : ℕ → Bool) (labels : Labels) (l : ℕ) → HasNoMember labels l → AreRemaining core labels l []
-none_remain core labels l off a = ((λ m. absurd (none a m)), (λ r. absurd (off a r.1)))

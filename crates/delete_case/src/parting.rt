@@ -1,11 +1,11 @@
 //! Former clusters part, and what happened to them is told.
 
-ghost use Rattle.std.specs.Prelude.{◌≡◌, [], ◌∷◌, ◌++◌, filter, IfOk, OnOk};
+ghost use Rattle.std.specs.Prelude.{IfOk, OnOk};
 ghost use Rattle.update_seed.specs.Books.{core_in, IsHeld, near_in};
 ghost use Rattle.update_seed.specs.Price.{cost_at};
 ghost use Rattle.delete_case.specs.Parting.{IsPartable, ArePartable, CoresAreThere};
 ghost use Rattle.delete_case.specs.Parting.{AreAllParted, AreAllTold, AreAllPaid};
-ghost use Rattle.delete_case.specs.inside.Cutting.{AreRemaining, IsCutBy, IsOneCut};
+ghost use Rattle.delete_case.specs.inside.Cutting.{IsCutBy, IsOneCut};
 ghost use Rattle.delete_case.specs.inside.Cutting.{IsOneTold, IsOnePaid};
 
 use crate::scene::Scene;
@@ -13,10 +13,10 @@ use count_book::CountBook;
 use label_book::LabelBook;
 use plain_dbscan::{RangeIndex, push_decline};
 use split_expand::expand;
-use std::alloc::{AllocError, Global};
+use std::alloc::AllocError;
 use std::sync::ledger::Ledger;
 use update_seed::Former;
-use vec_record::{Events, Groups, Metric, Number, Numbers, Steps};
+use vec_record::{Events, Groups, Metric, Steps};
 
 /// Parts each former cluster into the classes of what is left of it, and appends what happened.
 pub(crate) fn part_all<M: Metric, I: RangeIndex<M>, L: Ledger>(
@@ -96,52 +96,15 @@ fn groups_of<M: Metric, I: RangeIndex<M>, L: Ledger>(
     if seeds < 2 {
         return Ok(Groups::new(scene.alloc));
     }
-    let members = remaining(scene.alloc, counts, labels, former.label)?;
     expand::<M, I, L>(
         scene.alloc,
         scene.records,
         scene.index,
         counts,
+        labels,
         scene.eps,
-        &members,
+        former.label,
         &former.seeds,
         steps,
     )
-}
-
-// The members of a cluster that are core by the counts.
-fn remaining(
-    alloc: Global,
-    counts: &CountBook,
-    labels: &LabelBook,
-    label: Number,
-) -> Result<Numbers, AllocError>
-    ensures { IfOk result (AreRemaining (core_in counts.now) labels.now label) }
-{
-    match labels.members(label) {
-        Some(members) => cores_among(alloc, counts, members.as_slice()),
-        None => Ok(Numbers::new(alloc)),
-    }
-}
-
-// Those of the numbers that are core.
-fn cores_among(alloc: Global, counts: &CountBook, numbers: &[Number]) -> Result<Numbers, AllocError>
-    ensures { IfOk result (λ cores. cores ≡ filter (core_in counts.now) numbers.now) }
-{
-    let mut cores = Numbers::new(alloc);
-    for i in 0..numbers.len() {
-        push_core(counts, numbers[i], &mut cores)?;
-    }
-    Ok(cores)
-}
-
-// Puts a number behind the cores, where it is one.
-fn push_core(counts: &CountBook, number: Number, cores: &mut Numbers) -> Result<(), AllocError>
-    ensures { OnOk result (cores.new ≡ cores.old
-        ++ filter (core_in counts.now) (number ∷ [])) }
-{
-    if counts.is_core(number) {
-        return cores.push(number);
-    }
-    Ok(())
 }

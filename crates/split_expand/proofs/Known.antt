@@ -12,18 +12,17 @@ use Rattle.chain_growth.proofs.Work.{counted_none}
 use Rattle.chain_growth.proofs.Answer.{closed_flat, classes_push, next_of, split_early, split_all, drop_past, counted_any, counted_then_in, before_there}
 use Rattle.vec_record.specs.Held.{Held}
 use Rattle.count_book.specs.Counted.{Counted}
-use Rattle.label_book.specs.Labels.{IsMember}
-use Rattle.chain_growth.proofs.Views.{listed_in}
+use Rattle.chain_growth.proofs.Views.{listed_in, in_listed}
 use Rattle.split_expand.specs.Split.{AreSeeded, AreSplit, AreGroupsOf, AreAmong, AreCoresIn, IsPaid, IsBounded}
 use Rattle.split_expand.specs.declared.growing.Growth.{Growth}
-use Rattle.split_expand.specs.inside.Growing.{IsAlike, IsSound, IsAsked, GoesOn, IsBegun, IsPaidFor, IsWhole, IsLast, IsSetOf, IsBegin}
+use Rattle.split_expand.specs.inside.Growing.{IsAlike, IsSound, IsAsked, GoesOn, IsBegun, IsPaidFor, IsWhole, IsLast, HasSame, IsSetOf, AreThere, IsBegin}
 use Rattle.split_expand.proofs.Parted.{AreSome, none_some, some_push, groups_of, split_of}
 use Rattle.split_expand.proofs.Paid.{union_in, seeds_in, paid_of, bounded_of}
 
 module _ (core : ℕ → Bool) (near : ℕ → ℕ → Bool) (cost : ℕ → ℕ) (former seeds : List ℕ) where
   pub record IsKnown (g : Growth) (groups : List (List ℕ)) (many k old now : ℕ) : Type 0 where
     pub sound : IsSound g
-    pub members_are : IsSetOf former g.members.keys
+    pub members_are : HasSame former g.members
     pub seeds_are : IsSetOf seeds g.seeds.keys
     pub rising : IsNonDecreasing g.seeds.keys
     pub long : many ≡ length g.seeds.keys
@@ -32,17 +31,20 @@ module _ (core : ℕ → Bool) (near : ℕ → ℕ → Bool) (cost : ℕ → ℕ
     pub some : AreSome groups
     pub before : (j : ℕ) → j < k → In g.order.keys (get_or g.seeds.keys j 0)
     pub classes : AreSeeded core near former seeds → AreClasses core near g.seeds.keys groups
-    pub counted : AreSeeded core near former seeds → IsCounted core near cost g.members.keys g.seeds.keys (λ a. In g.order.keys a) old now
+    pub counted : AreSeeded core near former seeds → IsCounted core near cost g.members g.seeds.keys (λ a. In g.order.keys a) old now
 
-  pub known_start : (starts : List ℕ) (g : Growth) (n : ℕ) → IsSetOf seeds starts → IsNonDecreasing starts → IsBegin former starts g → IsKnown g [] (length starts) 0 n n
-  known_start starts g n set up h = record {
+  pub known_start : (starts : List ℕ) (g : Growth) (n : ℕ) → AreAmong former seeds → IsSetOf seeds starts → IsNonDecreasing starts → IsBegin former starts g → IsKnown g [] (length starts) 0 n n
+  known_start starts g n among set up h = record {
     sound = record {
+      seeds_within = λ x m.
+          let there : In starts x = subst (λ (xs : List ℕ). In xs x) h.same m in
+          (here x).1 (among x ((set.same x).0 there));
       seeds_once = subst Distinct (sym h.same) set.once;
       once = subst Distinct (sym h.none) tt;
       within = λ x m. let bad : In [] x = subst (λ (xs : List ℕ). In xs x) h.none m in absurd (cc);
       unfound = h.unfound ∙ sym (ap (λ (xs : List ℕ). missing xs g.order.keys) h.same ∙ ap (missing starts) h.none ∙ missing_nil starts);
     };
-    members_are = h.set;
+    members_are = here;
     seeds_are = subst (IsSetOf seeds) (sym h.same) set;
     rising = subst IsNonDecreasing (sym h.same) up;
     long = ap length (sym h.same);
@@ -51,32 +53,35 @@ module _ (core : ℕ → Bool) (near : ℕ → ℕ → Bool) (cost : ℕ → ℕ
     some = none_some;
     before = λ j lt. absurd (omega arith);
     classes = λ _. tt;
-    counted = λ _. counted_none core near cost g.members.keys g.seeds.keys (λ a. In g.order.keys a) n;
+    counted = λ _. counted_none core near cost g.members g.seeds.keys (λ a. In g.order.keys a) n;
   }
+    where
+      here : HasSame former g.members
+      here = subst (HasSame former) (sym h.members_are) (λ q. (in_listed former q, listed_in former q))
 
   module _ (alike : IsAlike near) (g : Growth) (groups : List (List ℕ)) (many k old now : ℕ) (h : IsKnown g groups many k old now) where
-    union : AreSeeded core near former seeds → IsUnion core near (In g.members.keys)
-    union f = union_in core near former seeds g.members.keys g.seeds.keys h.members_are h.seeds_are f
+    union : AreSeeded core near former seeds → IsUnion core near (In g.members)
+    union f = union_in core near former seeds g.members g.seeds.keys h.members_are h.seeds_are f
 
-    each : AreSeeded core near former seeds → AreSeeds core near (In g.members.keys) (In g.seeds.keys)
-    each f = seeds_in core near former seeds g.members.keys g.seeds.keys h.members_are h.seeds_are f
+    each : AreSeeded core near former seeds → AreSeeds core near (In g.members) (In g.seeds.keys)
+    each f = seeds_in core near former seeds g.members g.seeds.keys h.members_are h.seeds_are f
 
     once : Distinct (flat groups)
     once = subst Distinct h.is h.sound.once
 
     pub groups_now : AreGroupsOf former groups
-    groups_now = groups_of former g.members.keys groups h.members_are (λ x m. h.sound.within x (subst (λ (xs : List ℕ). In xs x) (sym h.is) m)) h.some once
+    groups_now = groups_of former g.members groups h.members_are (λ x m. h.sound.within x (subst (λ (xs : List ℕ). In xs x) (sym h.is) m)) h.some once
 
     pub paid_now : IsPaid core near cost former seeds old now
-    paid_now f = paid_of core near cost former seeds g.members.keys g.seeds.keys h.members_are h.seeds_are (λ a. In g.order.keys a) old now (h.counted f)
+    paid_now f = paid_of core near cost former seeds g.members g.seeds.keys h.members_are h.seeds_are (λ a. In g.order.keys a) old now (h.counted f)
 
     pub bounded_now : IsBounded core near cost former seeds old now
-    bounded_now f = bounded_of core near cost former seeds g.members.keys g.seeds.keys h.members_are h.seeds_are (λ a. In g.order.keys a) old now (h.counted f)
+    bounded_now f = bounded_of core near cost former seeds g.members g.seeds.keys h.members_are h.seeds_are (λ a. In g.order.keys a) old now (h.counted f)
 
     -- all seeds are in
     pub split_now : many ≤ k → AreSeeded core near former seeds → AreSplit core near former groups
-    split_now end f = split_of core near alike former g.members.keys g.seeds.keys groups h.members_are
-        (split_all core near g.seeds.keys alike g.members.keys (union f) (each f) groups (h.classes f) once (λ q m.
+    split_now end f = split_of core near alike former g.members g.seeds.keys groups h.members_are
+        (split_all core near g.seeds.keys alike g.members (union f) (each f) groups (h.classes f) once (λ q m.
         let p = place_of g.seeds.keys q (member_in g.seeds.keys q m) in
         subst (λ (xs : List ℕ). In xs q) h.is (subst (λ (x : ℕ). In g.order.keys x) p.1.is (h.before p.0 (omega (arith, p.1.below, end, h.long))))))
 
@@ -96,17 +101,16 @@ module _ (core : ℕ → Bool) (near : ℕ → ℕ → Bool) (cost : ℕ → ℕ
       counted = h.counted;
     }
 
-    pub seed_in : (s : ℕ) → get_or g.seeds.keys k 0 ≡ s → k < many → AreAmong former seeds → In g.members.keys s
-    seed_in s at lt among =
+    pub seed_in : (s : ℕ) → get_or g.seeds.keys k 0 ≡ s → k < many → In g.seeds.keys s
+    seed_in s at lt =
         let lt' : k < length g.seeds.keys = omega (arith, lt, h.long) in
-        let n : In g.seeds.keys s = subst (λ (x : ℕ). In g.seeds.keys x) at (in_member g.seeds.keys (get_or g.seeds.keys k 0) (member_at g.seeds.keys k lt')) in
-        (h.members_are.same s).1 (among s ((h.seeds_are.same s).0 n))
+        subst (λ (x : ℕ). In g.seeds.keys x) at (in_member g.seeds.keys (get_or g.seeds.keys k 0) (member_at g.seeds.keys k lt'))
 
     -- the seed came in, and its class grows
     module _ (s : ℕ) (at : get_or g.seeds.keys k 0 ≡ s) (lt : k < many) (out : is_in g.order.keys s ≡ false)
         (e : Growth) (m : e.members ≡ g.members) (t : e.seeds ≡ g.seeds) (o : e.order.keys ≡ with_one g.order.keys s) (i : e.asked ≡ g.asked) where
-      ms : e.members.keys ≡ g.members.keys
-      ms = ap (λ x. x.keys) m
+      ms : e.members ≡ g.members
+      ms = m
 
       ts : e.seeds.keys ≡ g.seeds.keys
       ts = ap (λ x. x.keys) t
@@ -120,14 +124,8 @@ module _ (core : ℕ → Bool) (near : ℕ → ℕ → Bool) (cost : ℕ → ℕ
       is_one : e.order.keys ≡ g.order.keys ++ s ∷ []
       is_one = o ∙ one_new g.order.keys s out
 
-      pub cores_in : (records : Held) (counts : Counted) → AreCoresIn records counts former → AreCoresIn records counts e.members.keys
-      cores_in records counts f = record {
-        there = λ a n. f.there a (back a n);
-        core = λ a n. f.core a (back a n);
-      }
-        where
-          back : (a : ℕ) → IsMember e.members.keys a → IsMember former a
-          back a n = (h.members_are.same a).0 (subst (λ (xs : List ℕ). In xs a) ms (listed_in e.members.keys a n))
+      pub there_in : (records : Held) (counts : Counted) → AreCoresIn records counts former → AreThere records e.members
+      there_in records counts f a n = f.there a ((h.members_are a).0 (subst (λ (xs : List ℕ). In xs a) ms (listed_in e.members a n)))
 
       pub entered_few : e.asked ≤ length e.order.keys
       entered_few = omega (arith, i, h.asked, ap length is_one, length-append g.order.keys (s ∷ []))
@@ -138,7 +136,7 @@ module _ (core : ℕ → Bool) (near : ℕ → ℕ → Bool) (cost : ℕ → ℕ
       abbrev begun : AreSeeded core near former seeds → IsBegun core near e
       begun f = record {
         union = subst (λ (xs : List ℕ). IsUnion core near (In xs)) (sym ms) (union f);
-        seeds = subst (λ (xs : List ℕ). AreSeeds core near (In xs) (In e.seeds.keys)) (sym ms) (subst (λ (ks : List ℕ). AreSeeds core near (In g.members.keys) (In ks)) (sym ts) (each f));
+        seeds = subst (λ (xs : List ℕ). AreSeeds core near (In xs) (In e.seeds.keys)) (sym ms) (subst (λ (ks : List ℕ). AreSeeds core near (In g.members) (In ks)) (sym ts) (each f));
         done = g.order.keys;
         seed = s;
         is = is_one;
@@ -147,19 +145,19 @@ module _ (core : ℕ → Bool) (near : ℕ → ℕ → Bool) (cost : ℕ → ℕ
       }
 
       module _ (new : ℕ) (p : IsPaidFor core near cost e now new) where
-        then : AreSeeded core near former seeds → IsCounted core near cost g.members.keys g.seeds.keys (Joined core near s) now new
+        then : AreSeeded core near former seeds → IsCounted core near cost g.members g.seeds.keys (Joined core near s) now new
         then f =
             subst (λ (xs : List ℕ). IsCounted core near cost xs g.seeds.keys (Joined core near s) now new) ms
-            (subst (λ (ks : List ℕ). IsCounted core near cost e.members.keys ks (Joined core near s) now new) ts (p (begun f)))
+            (subst (λ (ks : List ℕ). IsCounted core near cost e.members ks (Joined core near s) now new) ts (p (begun f)))
 
-        any : AreSeeded core near former seeds → IsCounted core near cost g.members.keys g.seeds.keys (λ (x : ℕ). Unit {0}) old new
-        any f = counted_any core near alike cost g.members.keys g.seeds.keys (union f) (each f) g.order.keys s (next f) old now new (h.counted f) (then f)
+        any : AreSeeded core near former seeds → IsCounted core near cost g.members g.seeds.keys (λ (x : ℕ). Unit {0}) old new
+        any f = counted_any core near alike cost g.members g.seeds.keys (union f) (each f) g.order.keys s (next f) old now new (h.counted f) (then f)
 
         pub paid_then : IsPaid core near cost former seeds old new
-        paid_then f = paid_of core near cost former seeds g.members.keys g.seeds.keys h.members_are h.seeds_are (λ (x : ℕ). Unit {0}) old new (any f)
+        paid_then f = paid_of core near cost former seeds g.members g.seeds.keys h.members_are h.seeds_are (λ (x : ℕ). Unit {0}) old new (any f)
 
         pub bounded_then : IsBounded core near cost former seeds old new
-        bounded_then f = bounded_of core near cost former seeds g.members.keys g.seeds.keys h.members_are h.seeds_are (λ (x : ℕ). Unit {0}) old new (any f)
+        bounded_then f = bounded_of core near cost former seeds g.members g.seeds.keys h.members_are h.seeds_are (λ (x : ℕ). Unit {0}) old new (any f)
 
         -- it is left off
         pub split_then : IsLast core near e → AreSeeded core near former seeds → AreSplit core near former groups
@@ -167,11 +165,11 @@ module _ (core : ℕ → Bool) (near : ℕ → ℕ → Bool) (cost : ℕ → ℕ
             let one : (q : ℕ) → In g.seeds.keys q → is_in (flat groups) q ≡ false → Joined core near s q = λ q n r.
             last (begun f) q (subst (λ (ks : List ℕ). In ks q) (sym ts) n) (ap (λ (xs : List ℕ). is_in xs q) h.is ∙ r)
             in
-            split_of core near alike former g.members.keys g.seeds.keys groups h.members_are (split_early core near g.seeds.keys alike g.members.keys (union f) (each f) groups (h.classes f) once s one)
+            split_of core near alike former g.members g.seeds.keys groups h.members_are (split_early core near g.seeds.keys alike g.members (union f) (each f) groups (h.classes f) once s one)
 
         -- it is whole
         module _ (c : Growth) (on : GoesOn e c) (sound : IsSound c) (all : IsAsked c) (whole : IsWhole core near e c) (group : List ℕ) (cut : group ≡ drop g.asked c.order.keys) where
-          mc : c.members.keys ≡ g.members.keys
+          mc : c.members ≡ g.members
           mc = on.members ∙ ms
 
           tc : c.seeds.keys ≡ g.seeds.keys
@@ -198,7 +196,7 @@ module _ (core : ℕ → Bool) (near : ℕ → ℕ → Bool) (cost : ℕ → ℕ
           pub known_more : IsKnown c (groups ++ group ∷ []) many (k + 1) old new
           known_more = record {
             sound = sound;
-            members_are = subst (IsSetOf former) (sym mc) h.members_are;
+            members_are = subst (HasSame former) (sym mc) h.members_are;
             seeds_are = subst (IsSetOf seeds) (sym tc) h.seeds_are;
             rising = subst IsNonDecreasing (sym tc) h.rising;
             long = h.long ∙ ap length (sym tc);
@@ -213,7 +211,7 @@ module _ (core : ℕ → Bool) (near : ℕ → ℕ → Bool) (cost : ℕ → ℕ
                 subst (λ (ks : List ℕ). AreClasses core near ks (groups ++ group ∷ [])) (sym tc)
                 (subst (λ (x : List ℕ). AreClasses core near g.seeds.keys (groups ++ x ∷ [])) (same_group f) (classes_push core near g.seeds.keys groups (w f).group s (h.classes f) n.seed (w f).is_class));
             counted = λ f.
-                let in_it = counted_then_in core near alike cost g.members.keys g.seeds.keys (union f) (each f) g.order.keys s (next f) old now new (h.counted f) (then f) c.order.keys (w f) in
+                let in_it = counted_then_in core near alike cost g.members g.seeds.keys (union f) (each f) g.order.keys s (next f) old now new (h.counted f) (then f) c.order.keys (w f) in
                 subst (λ (xs : List ℕ). IsCounted core near cost xs c.seeds.keys (λ a. In c.order.keys a) old new) (sym mc)
-                (subst (λ (ks : List ℕ). IsCounted core near cost g.members.keys ks (λ a. In c.order.keys a) old new) (sym tc) in_it);
+                (subst (λ (ks : List ℕ). IsCounted core near cost g.members ks (λ a. In c.order.keys a) old new) (sym tc) in_it);
           }

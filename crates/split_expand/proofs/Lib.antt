@@ -4,3 +4,5 @@ pub mod Begun
 pub mod Known
 pub mod Sets
 pub mod Tested
+pub mod Remain
+pub mod Meeting

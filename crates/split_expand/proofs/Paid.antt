@@ -11,22 +11,22 @@ use Rattle.chain_growth.proofs.Lists.{member_in}
 use Rattle.chain_growth.proofs.Work.{bounded}
 use Rattle.chain_growth.proofs.Views.{listed_in, union_as, seeds_as, grown_as}
 use Rattle.split_expand.specs.Split.{AreSeeded, AreSplit, ArePaid, IsPaid, IsBounded, AreGroupsOf}
-use Rattle.split_expand.specs.inside.Growing.{IsSetOf}
+use Rattle.split_expand.specs.inside.Growing.{IsSetOf, HasSame}
 use Rattle.split_expand.proofs.Parted.{each_once}
 
-module _ (core : ℕ → Bool) (near : ℕ → ℕ → Bool) (former seeds members keys : List ℕ) (f : IsSetOf former members) (s : IsSetOf seeds keys) (h : AreSeeded core near former seeds) where
+module _ (core : ℕ → Bool) (near : ℕ → ℕ → Bool) (former seeds members keys : List ℕ) (f : HasSame former members) (s : IsSetOf seeds keys) (h : AreSeeded core near former seeds) where
   pub union_in : IsUnion core near (In members)
-  union_in = union_as core near (IsMember former) (In members) (λ a. (f.same a).1) (λ a. (f.same a).0) h.union
+  union_in = union_as core near (IsMember former) (In members) (λ a. (f a).1) (λ a. (f a).0) h.union
 
   pub seeds_in : AreSeeds core near (In members) (In keys)
-  seeds_in = seeds_as core near (IsMember former) (In members) (IsMember seeds) (In keys) (λ a. (f.same a).1) (λ a. (f.same a).0) (λ a. (s.same a).1) (λ a. (s.same a).0) h.each
+  seeds_in = seeds_as core near (IsMember former) (In members) (IsMember seeds) (In keys) (λ a. (f a).1) (λ a. (f a).0) (λ a. (s.same a).1) (λ a. (s.same a).0) h.each
 
-module _ (core : ℕ → Bool) (near : ℕ → ℕ → Bool) (cost : ℕ → ℕ) (former seeds members keys : List ℕ) (f : IsSetOf former members) (s : IsSetOf seeds keys) (P : ℕ → Type 0) (old new : ℕ) (h : IsCounted core near cost members keys P old new) where
+module _ (core : ℕ → Bool) (near : ℕ → ℕ → Bool) (cost : ℕ → ℕ) (former seeds members keys : List ℕ) (f : HasSame former members) (s : IsSetOf seeds keys) (P : ℕ → Type 0) (old new : ℕ) (h : IsCounted core near cost members keys P old new) where
   grown_in : (a : ℕ) → IsGrown core near (IsMember former) (IsMember seeds) a → IsGrown core near (In members) (In keys) a
-  grown_in a g = grown_as core near (IsMember former) (In members) (IsMember seeds) (In keys) (λ b. (f.same b).1) (λ b. (s.same b).1) (λ b. (s.same b).0) a g
+  grown_in a g = grown_as core near (IsMember former) (In members) (IsMember seeds) (In keys) (λ b. (f b).1) (λ b. (s.same b).1) (λ b. (s.same b).0) a g
 
   grown_out : (a : ℕ) → IsGrown core near (In members) (In keys) a → IsGrown core near (IsMember former) (IsMember seeds) a
-  grown_out a g = grown_as core near (In members) (IsMember former) (In keys) (IsMember seeds) (λ b. (f.same b).0) (λ b. (s.same b).0) (λ b. (s.same b).1) a g
+  grown_out a g = grown_as core near (In members) (IsMember former) (In keys) (IsMember seeds) (λ b. (f b).0) (λ b. (s.same b).0) (λ b. (s.same b).1) a g
 
   pub paid_of : ArePaid core near cost former seeds old new
   paid_of = record {

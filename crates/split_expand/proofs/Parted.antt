@@ -9,7 +9,7 @@ use Rattle.chain_growth.specs.inside.Work.{IsClassOf, AreClasses, IsCut}
 use Rattle.chain_growth.proofs.Lists.{member_in, in_front, in_back, in_cases, out_of, is_out, distinct_front, distinct_back}
 use Rattle.chain_growth.proofs.Views.{listed_in, in_listed}
 use Rattle.split_expand.specs.Split.{AreGroupsOf, IsClass, AreSplit}
-use Rattle.split_expand.specs.inside.Growing.{IsSetOf}
+use Rattle.split_expand.specs.inside.Growing.{HasSame}
 
 -- the places of a list with one more in front
 head_case : (g : List ℕ) (gs : List (List ℕ)) (P : ℕ → List ℕ → Type 0) → P 0 g → ((j : ℕ) (h : List ℕ) → slice_get gs j ≡ Some h → P (suc j) h) → (j : ℕ) (h : List ℕ) → slice_get (g ∷ gs) j ≡ Some h → P j h
@@ -98,9 +98,9 @@ pub some_push : (gs : List (List ℕ)) (g : List ℕ) → AreSome gs → 0 < len
 some_push [] g all one j h e = head_case g [] (λ (i : ℕ) (k : List ℕ). 0 < length k) one (λ i k at. absurd (no_value refl at)) j h e
 some_push (k ∷ gs) g all one j h e = head_case k (gs ++ g ∷ []) (λ (i : ℕ) (l : List ℕ). 0 < length l) (all 0 k refl) (some_push gs g (λ i l at. all (suc i) l at) one) j h e
 
-pub groups_of : (former members : List ℕ) (gs : List (List ℕ)) → IsSetOf former members → ((x : ℕ) → In (flat gs) x → In members x) → AreSome gs → Distinct (flat gs) → AreGroupsOf former gs
+pub groups_of : (former members : List ℕ) (gs : List (List ℕ)) → HasSame former members → ((x : ℕ) → In (flat gs) x → In members x) → AreSome gs → Distinct (flat gs) → AreGroupsOf former gs
 groups_of former members gs set within some once = record {
-  members = λ a m. (set.same a).0 (within a (grouped_in gs a m));
+  members = λ a m. (set a).0 (within a (grouped_in gs a m));
   some = some;
   once = groups_once gs once;
   apart = groups_apart gs once;
@@ -118,8 +118,8 @@ module _ (core : ℕ → Bool) (near : ℕ → ℕ → Bool) (alike : (a b : ℕ
         (λ i. joined_on core near t s a (joined_back core near alike s t st) (h.joined a (listed_in g a i))),
       )
 
-  pub split_of : (former members seeds : List ℕ) (gs : List (List ℕ)) → IsSetOf former members → IsCut core near members seeds gs → AreSplit core near former gs
+  pub split_of : (former members seeds : List ℕ) (gs : List (List ℕ)) → HasSame former members → IsCut core near members seeds gs → AreSplit core near former gs
   split_of former members seeds gs set cut = record {
     classes = λ j g e. let c = class_at seeds gs cut.classes j g e in class_of_each c.0 g c.1;
-    rest = λ a b fa fb oa ob. cut.rest a b ((set.same a).1 fa) ((set.same b).1 fb) (out_grouped gs a oa) (out_grouped gs b ob);
+    rest = λ a b fa fb oa ob. cut.rest a b ((set a).1 fa) ((set b).1 fb) (out_grouped gs a oa) (out_grouped gs b ob);
   }

@@ -20,13 +20,13 @@ unfolding IsDistinct
 distinct_of [] h = tt
 distinct_of (x ∷ xs) h = (apart_all x xs h.0, distinct_of xs h.1)
 
-one_stays : (xs : List ℕ) (b x : ℕ) → In xs x → In (with_one xs b) x
+pub one_stays : (xs : List ℕ) (b x : ℕ) → In xs x → In (with_one xs b) x
 one_stays xs b x m = elim (cases_Bool (is_in xs b)) [
   | inl t ↦ subst (λ (ys : List ℕ). In ys x) (sym (one_there xs b t)) m
   | inr f ↦ subst (λ (ys : List ℕ). In ys x) (sym (one_new xs b f)) (in_front xs (b ∷ []) x m)
 ]
 
-one_here : (xs : List ℕ) (b : ℕ) → In (with_one xs b) b
+pub one_here : (xs : List ℕ) (b : ℕ) → In (with_one xs b) b
 one_here xs b = elim (cases_Bool (is_in xs b)) [
   | inl t ↦ subst (λ (ys : List ℕ). In ys b) (sym (one_there xs b t)) t
   | inr f ↦ subst (λ (ys : List ℕ). In ys b) (sym (one_new xs b f)) (in_back xs (b ∷ []) b (in_itself b []))

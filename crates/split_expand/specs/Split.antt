@@ -1,5 +1,5 @@
 -- What a split of a former cluster needs and answers, and what it may ask.
-use Rattle.std.specs.Prelude.{◌≡◌, ◌↔◌, ℕ, ◌+◌, ◌<◌, ◌≤◌, Bool, false, List, length, slice_get, Some, IsSome, sum_by}
+use Rattle.std.specs.Prelude.{◌≡◌, ◌↔◌, ℕ, ◌+◌, ◌<◌, ◌≤◌, Bool, List, length, slice_get, Some, IsSome, sum_by}
 use Rattle.std.specs.FinMap as map
 use Rattle.vec_record.specs.Held.{Held}
 use Rattle.plain_dbscan.specs.Chains.{Joined}

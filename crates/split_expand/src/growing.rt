@@ -1,16 +1,16 @@
 //! The work list of growing groups.
 
-ghost use Rattle.std.specs.Prelude.{◌≡◌, ◌↔◌, ◌+◌, ◌<◌, ◌≤◌, false, drop, length, IfOk, OnOk};
-ghost use Rattle.std.specs.Prelude.{IsTrue};
-ghost use Rattle.chain_growth.specs.inside.Lists.{In, with_one};
+ghost use Rattle.std.specs.Prelude.{◌≡◌, ◌+◌, ◌<◌, ◌≤◌, true, false, drop, length};
+ghost use Rattle.std.specs.Prelude.{ℕ, Bool, IfOk, OnOk, IsTrue};
+ghost use Rattle.chain_growth.specs.inside.Lists.{is_in, In, with_one};
 ghost use Rattle.chain_growth.specs.inside.Work.{Enters, EntersNear};
-ghost use Rattle.update_seed.specs.Books.{IsHeld, near_in, core_in};
+ghost use Rattle.update_seed.specs.Books.{IsHeld, near_in};
 ghost use Rattle.update_seed.specs.Price.{cost_at};
-ghost use Rattle.split_expand.specs.Split.{AreCoresIn};
-ghost use Rattle.split_expand.specs.inside.Growing.{IsAlike, IsSound, IsToCome, HasCores, next_in};
-ghost use Rattle.split_expand.specs.inside.Growing.{GoesOn, IsAsked, IsPaidFor, IsWhole, IsLast};
+ghost use Rattle.split_expand.specs.inside.Growing.{IsAlike, IsSound, IsMet, HasMet, AreThere};
+ghost use Rattle.split_expand.specs.inside.Growing.{HasNoSeedLater, GoesOn, IsAsked, next_in};
+ghost use Rattle.split_expand.specs.inside.Growing.{IsPaidFor, IsWhole, IsLast};
 
-use count_book::CountBook;
+use crate::members::Members;
 use indexmap::IndexSet;
 use plain_dbscan::RangeIndex;
 use std::alloc::{AllocError, Global};
@@ -20,58 +20,109 @@ use vec_record::{Metric, Number, Numbers, Records, Steps};
 
 /// What grows: the members and the seeds of a former cluster, and the cores of the groups in the
 /// order in which they came. The first ones of these were asked. `unfound` counts the seeds that
-/// haven't come, and `near` has the answer of the last query.
+/// haven't come, `near` has the answer of the last query, and `later` those of it that are no seed
+/// and hadn't come.
 #[derive(Drop)]
-pub(crate) struct Growth {
-    pub(crate) members: IndexSet<Number>,
+pub(crate) struct Growth<'a> {
+    pub(crate) members: Members<'a>,
     pub(crate) seeds: IndexSet<Number>,
     pub(crate) order: IndexSet<Number>,
     pub(crate) asked: usize,
     pub(crate) unfound: usize,
     pub(crate) near: Numbers,
+    pub(crate) later: Vec<Number>,
 }
 
-impl Growth {
-    /// Takes a core in behind the others, and counts it off where it is a seed.
-    pub(crate) fn enter(&mut self, core: Number) -> Result<(), AllocError>
+impl Growth<'_> {
+    /// Takes in a seed behind the others, and counts it off.
+    pub(crate) fn enter_seed(&mut self, seed: Number) -> Result<(), AllocError>
         requires sound { IsSound self.old }
-        requires member { In self.old.members.keys core }
+        requires seed { In self.old.seeds.keys seed }
+        ensures sound { OnOk result (IsSound self.new) }
+        ensures order { OnOk result (self.new.order.keys ≡ with_one self.old.order.keys seed) }
+        ensures members { self.new.members ≡ self.old.members }
+        ensures seeds { self.new.seeds ≡ self.old.seeds }
+        ensures asked { self.new.asked ≡ self.old.asked }
+        ensures near { self.new.near ≡ self.old.near }
+        ensures later { self.new.later ≡ self.old.later }
+    {
+        if self.order.insert(seed)? {
+            self.unfound -= 1;
+        }
+        Ok(())
+    }
+
+    // Takes in a member that is no seed behind the others.
+    fn enter(&mut self, core: Number) -> Result<(), AllocError>
+        requires sound { IsSound self.old }
+        requires member { In self.old.members core }
+        requires other { is_in self.old.seeds.keys core ≡ false }
         ensures sound { OnOk result (IsSound self.new) }
         ensures order { OnOk result (self.new.order.keys ≡ with_one self.old.order.keys core) }
         ensures members { self.new.members ≡ self.old.members }
         ensures seeds { self.new.seeds ≡ self.old.seeds }
         ensures asked { self.new.asked ≡ self.old.asked }
         ensures near { self.new.near ≡ self.old.near }
+        ensures later { self.new.later ≡ self.old.later }
     {
-        if self.order.insert(core)? && self.seeds.contains(&core) {
-            self.unfound -= 1;
-        }
+        let _ = self.order.insert(core)?;
         Ok(())
     }
 
-    // True exactly where a number is a member that hasn't come.
-    fn is_new(&self, counts: &CountBook, number: Number) -> bool
-        requires { HasCores counts.now self.now }
-        ensures { IsTrue result ↔ IsToCome self.now number }
-    {
-        !self.order.contains(&number) && counts.is_core(number) && self.members.contains(&number)
-    }
-
-    // Takes in the members among the near numbers: all of them, or the seeds alone.
-    fn enter_near(&mut self, counts: &CountBook, all: bool) -> Result<(), AllocError>
+    // Takes in a near number that is a seed, and leaves any other one that hasn't come for later.
+    fn meet(&mut self, number: Number) -> Result<(), AllocError>
         requires sound { IsSound self.old }
-        requires cores { HasCores counts.now self.old }
         ensures sound { OnOk result (IsSound self.new) }
-        ensures entered { OnOk result (Enters self.old.members.keys self.old.near
-            self.old.order.keys self.new.order.keys all (length self.old.near)) }
+        ensures met { OnOk result (IsMet self.old self.new number) }
         ensures members { self.new.members ≡ self.old.members }
         ensures seeds { self.new.seeds ≡ self.old.seeds }
         ensures asked { self.new.asked ≡ self.old.asked }
         ensures near { self.new.near ≡ self.old.near }
     {
+        if self.order.contains(&number) {
+            return Ok(());
+        }
+        if self.seeds.contains(&number) {
+            return self.enter_seed(number);
+        }
+        self.later.push(number)?;
+        Ok(())
+    }
+
+    // Takes in the seeds among the near numbers, and leaves the others that haven't come for later.
+    fn enter_seeds(&mut self) -> Result<(), AllocError>
+        requires sound { IsSound self.old }
+        ensures sound { OnOk result (IsSound self.new) }
+        ensures entered { OnOk result (HasMet self.old self.new (length self.old.near)) }
+        ensures members { self.new.members ≡ self.old.members }
+        ensures seeds { self.new.seeds ≡ self.old.seeds }
+        ensures asked { self.new.asked ≡ self.old.asked }
+        ensures near { self.new.near ≡ self.old.near }
+    {
+        self.later.clear();
         for i in 0..self.near.len() {
             let number = self.near.as_slice()[i];
-            if (all || self.seeds.contains(&number)) && self.is_new(counts, number) {
+            self.meet(number)?;
+        }
+        Ok(())
+    }
+
+    // Takes in the members among those that were left for later.
+    fn enter_later(&mut self) -> Result<(), AllocError>
+        requires sound { IsSound self.old }
+        requires others { HasNoSeedLater self.old }
+        ensures sound { OnOk result (IsSound self.new) }
+        ensures entered { OnOk result (Enters self.old.members self.old.later.items
+            self.old.order.keys self.new.order.keys true (length self.old.later.items)) }
+        ensures members { self.new.members ≡ self.old.members }
+        ensures seeds { self.new.seeds ≡ self.old.seeds }
+        ensures asked { self.new.asked ≡ self.old.asked }
+        ensures near { self.new.near ≡ self.old.near }
+        ensures later { self.new.later ≡ self.old.later }
+    {
+        for i in 0..self.later.len() {
+            let number = self.later[i];
+            if self.members.has(number) {
                 self.enter(number)?;
             }
         }
@@ -93,31 +144,30 @@ impl Growth {
 pub(crate) fn grow<M: Metric, I: RangeIndex<M>, L: Ledger>(
     records: &Records,
     index: &I,
-    counts: &CountBook,
     eps: u32,
-    growth: &mut Growth,
+    growth: &mut Growth<'_>,
     steps: &mut Steps<L>,
 ) -> Result<bool, AllocError>
     requires index { IsHeld (I.width index.now) (I.contents index.now) records.now }
     requires alike { IsAlike (near_in M.dist eps records.now) }
-    requires cores { AreCoresIn records.now counts.now growth.old.members.keys }
+    requires there { AreThere records.now growth.old.members }
     requires sound { IsSound growth.old }
     requires asked { growth.old.asked ≤ length growth.old.order.keys }
     ensures sound { OnOk result (IsSound growth.new) }
     ensures order { OnOk result (GoesOn growth.old growth.new) }
     ensures asked { IfOk result (λ whole. IsTrue whole → IsAsked growth.new) }
-    ensures paid { IsPaidFor (core_in counts.now) (near_in M.dist eps records.now)
+    ensures paid { (core : ℕ → Bool) → IsPaidFor core (near_in M.dist eps records.now)
         (cost_at (I.cost index.now) records.now eps) growth.old steps.old steps.new }
-    ensures whole { IfOk result (λ whole. IsTrue whole → IsWhole (core_in counts.now)
-        (near_in M.dist eps records.now) growth.old growth.new) }
-    ensures last { IfOk result (λ whole. whole ≡ false → IsLast (core_in counts.now)
-        (near_in M.dist eps records.now) growth.old) }
+    ensures whole { IfOk result (λ whole. IsTrue whole → (core : ℕ → Bool)
+        → IsWhole core (near_in M.dist eps records.now) growth.old growth.new) }
+    ensures last { IfOk result (λ whole. whole ≡ false → (core : ℕ → Bool)
+        → IsLast core (near_in M.dist eps records.now) growth.old) }
 {
     'asks: while growth.asked < growth.order.len() {
         if growth.unfound == 0 {
             return Ok(false);
         }
-        ask_next(records, index, counts, eps, growth, steps)?;
+        ask_next(records, index, eps, growth, steps)?;
     }
     Ok(growth.unfound > 0)
 }
@@ -126,18 +176,17 @@ pub(crate) fn grow<M: Metric, I: RangeIndex<M>, L: Ledger>(
 fn ask_next<M: Metric, I: RangeIndex<M>, L: Ledger>(
     records: &Records,
     index: &I,
-    counts: &CountBook,
     eps: u32,
-    growth: &mut Growth,
+    growth: &mut Growth<'_>,
     steps: &mut Steps<L>,
 ) -> Result<(), AllocError>
     requires index { IsHeld (I.width index.now) (I.contents index.now) records.now }
-    requires cores { AreCoresIn records.now counts.now growth.old.members.keys }
+    requires there { AreThere records.now growth.old.members }
     requires sound { IsSound growth.old }
     requires asked { growth.old.asked < length growth.old.order.keys }
     ensures sound { OnOk result (IsSound growth.new) }
     ensures entered { OnOk result (EntersNear (near_in M.dist eps records.now)
-        growth.old.members.keys (next_in growth.old) growth.old.order.keys growth.new.order.keys) }
+        growth.old.members (next_in growth.old) growth.old.order.keys growth.new.order.keys) }
     ensures members { OnOk result (growth.new.members ≡ growth.old.members) }
     ensures seeds { OnOk result (growth.new.seeds ≡ growth.old.seeds) }
     ensures asked { OnOk result (growth.new.asked ≡ growth.old.asked + 1) }
@@ -146,8 +195,8 @@ fn ask_next<M: Metric, I: RangeIndex<M>, L: Ledger>(
 {
     let core = growth.order.as_slice()[growth.asked];
     ask(records, index, core, eps, &mut growth.near, steps)?;
-    growth.enter_near(counts, false)?;
-    growth.enter_near(counts, true)?;
+    growth.enter_seeds()?;
+    growth.enter_later()?;
     growth.asked += 1;
     Ok(())
 }

@@ -2,6 +2,8 @@ use Rattle.std.proofs.Common.{◌<◌, List, ℕ, sym, subst, length, arith}
 use Rattle.update_seed.specs.Books.{core_in, near_in}
 use Rattle.update_seed.specs.Price.{cost_at}
 use Rattle.update_seed.proofs.Clusters.{near_alike}
+use Rattle.split_expand.specs.Remaining.{remaining}
+use Rattle.split_expand.proofs.Remain.{remains}
 use Rattle.delete_case.specs.inside.Cutting.{IsCutBy}
 use Rattle.delete_case.proofs.Cuts.{cut_by_none, cut_by, paid_none, paid_by, cores_in, seeds_among}
 use Rattle.delete_case.proofs.Results.{if_ok_both}
@@ -24,30 +26,24 @@ returns-then-seeds-lt2-clause-paid g c =
     let records = scene.records.now in
     paid_none (core_in c.args.counts.now) (near_in g.M.Metric.dist scene.eps records) (cost_at (g.I.RangeIndex.cost scene.index.now) records scene.eps) c.args.labels.now c.args.former.now _ _ (omega arith)
 
-pub returns-in_err-members-clause-paid : goal.returns-in_err-members-clause-paid
-returns-in_err-members-clause-paid g c =
-    let scene = c.args.scene.now in
-    let records = scene.records.now in
-    paid_none (core_in c.args.counts.now) (near_in g.M.Metric.dist scene.eps records) (cost_at (g.I.RangeIndex.cost scene.index.now) records scene.eps) c.args.labels.now c.args.former.now _ _ (omega arith)
-
 pub expand-requires-clause-former : goal.expand-requires-clause-former
 expand-requires-clause-former g c =
     let scene = c.args.scene.now in
     let near = near_in g.M.Metric.dist scene.eps scene.records.now in
-    cores_in c.args.counts.now near c.args.labels.now c.args.former.now c.requires.former c.in_ok-members.members c.in_ok-members.ensures scene.records.now c.requires.there
+    cores_in c.args.counts.now near c.args.labels.now c.args.former.now c.requires.former (remaining c.args.counts.now c.args.labels.now c.args.former.now.label) (remains c.args.counts.now c.args.labels.now c.args.former.now.label) scene.records.now c.requires.there
 
 pub expand-requires-clause-seeds : goal.expand-requires-clause-seeds
 expand-requires-clause-seeds g c =
     let scene = c.args.scene.now in
     let near = near_in g.M.Metric.dist scene.eps scene.records.now in
-    seeds_among c.args.counts.now near c.args.labels.now c.args.former.now c.requires.former c.in_ok-members.members c.in_ok-members.ensures
+    seeds_among c.args.counts.now near c.args.labels.now c.args.former.now c.requires.former (remaining c.args.counts.now c.args.labels.now c.args.former.now.label) (remains c.args.counts.now c.args.labels.now c.args.former.now.label)
 
 pub returns-clause-groups : goal.returns-clause-groups
 returns-clause-groups g c =
     let scene = c.args.scene.now in
     let near = near_in g.M.Metric.dist scene.eps scene.records.now in
     if_ok_both c.expand.result _ _ _
-    (λ groups are split. cut_by c.args.counts.now near c.args.labels.now c.args.former.now c.requires.former c.in_ok-members.members c.in_ok-members.ensures groups are split)
+    (λ groups are split. cut_by c.args.counts.now near c.args.labels.now c.args.former.now c.requires.former (remaining c.args.counts.now c.args.labels.now c.args.former.now.label) (remains c.args.counts.now c.args.labels.now c.args.former.now.label) groups are split)
     c.expand.ensures.groups c.expand.ensures.split
 
 pub returns-clause-paid : goal.returns-clause-paid
@@ -55,5 +51,5 @@ returns-clause-paid g c =
     let scene = c.args.scene.now in
     let records = scene.records.now in
     let near = near_in g.M.Metric.dist scene.eps records in
-    paid_by c.args.counts.now near c.args.labels.now c.args.former.now c.requires.former c.in_ok-members.members c.in_ok-members.ensures
+    paid_by c.args.counts.now near c.args.labels.now c.args.former.now c.requires.former (remaining c.args.counts.now c.args.labels.now c.args.former.now.label) (remains c.args.counts.now c.args.labels.now c.args.former.now.label)
     (cost_at (g.I.RangeIndex.cost scene.index.now) records scene.eps) _ _ c.expand.ensures.paid

@@ -1,5 +1,5 @@
-use Rattle.std.proofs.Common.{◌-◌, ◌≤◌, length}
-use Rattle.update_seed.specs.Books.{near_in, core_in}
+use Rattle.std.proofs.Common.{ℕ, Bool, ◌-◌, ◌≤◌, length}
+use Rattle.update_seed.specs.Books.{near_in}
 use Rattle.update_seed.specs.Price.{cost_at}
 use Rattle.chain_growth.proofs.Work.{IsGrowing}
 use Rattle.split_expand.specs.inside.Growing.{IsSound, GoesOn, IsBegun}
@@ -10,9 +10,9 @@ invariant-asks g l = record {
   sound : IsSound l.growth;
   on : GoesOn l.fn.growth l.growth;
   few : l.growth.asked ≤ length l.growth.order.keys;
-  growing : (b : IsBegun (core_in l.counts) (near_in g.M.Metric.dist l.eps l.records) l.fn.growth)
-      → IsGrowing (core_in l.counts) (near_in g.M.Metric.dist l.eps l.records) (cost_at (g.I.RangeIndex.cost l.index) l.records l.eps) l.fn.growth.members.keys l.fn.growth.seeds.keys b.done b.seed l.growth.order.keys l.growth.asked l.fn.steps l.steps;
+  growing : (core : ℕ → Bool) (b : IsBegun core (near_in g.M.Metric.dist l.eps l.records) l.fn.growth)
+      → IsGrowing core (near_in g.M.Metric.dist l.eps l.records) (cost_at (g.I.RangeIndex.cost l.index) l.records l.eps) l.fn.growth.members l.fn.growth.seeds.keys b.done b.seed l.growth.order.keys l.growth.asked l.fn.steps l.steps;
 }
 
 abbrev pub decreases-asks : goal.decreases-asks
-decreases-asks g l = length l.growth.members.keys - l.growth.asked
+decreases-asks g l = length l.growth.members - l.growth.asked

@@ -3,9 +3,9 @@ use Rattle.split_expand.proofs.splitting.begin.Goals as goal
 
 pub returns : goal.returns
 returns c = record {
-  set = c.in_ok-members.ensures;
+  members_are = c.new-members.ensures;
   same = refl;
-  none = c.new.ensures.empty;
+  none = c.in_ok-order.ensures.empty;
   asked = refl;
   unfound = c.len-unfound.ensures.len;
 }

@@ -3,19 +3,20 @@ use Rattle.update_seed.specs.Books.{near_in, core_in}
 use Rattle.update_seed.specs.Price.{cost_at}
 use Rattle.update_seed.proofs.Clusters.{near_alike}
 use Rattle.chain_growth.specs.inside.Lists.{is_in, In}
+use Rattle.split_expand.specs.Remaining.{remaining}
 use Rattle.split_expand.specs.Split.{AreGroupsOf, AreSplit}
 use Rattle.split_expand.proofs.Tested.{out_by, in_by}
 use Rattle.split_expand.proofs.Paid.{paid_none, bounded_none, no_groups, one_class}
-use Rattle.split_expand.proofs.Known.{IsKnown, known_start, known_there, known_more, groups_now, paid_now, bounded_now, split_now, paid_then, bounded_then, split_then, seed_in, cores_in, entered_few, begins_in}
+use Rattle.split_expand.proofs.Known.{IsKnown, known_start, known_there, known_more, groups_now, paid_now, bounded_now, split_now, paid_then, bounded_then, split_then, seed_in, there_in, entered_few, begins_in}
 use Rattle.split_expand.proofs.splitting.expand.Goals as goal
-use Rattle.split_expand.proofs.splitting.expand.Goals.{then-not-contains+in_ok-enter+in_ok-grow+else-not-branch+in_ok-group+in_ok-push, else-not-contains}
+use Rattle.split_expand.proofs.splitting.expand.Goals.{then-not-contains+in_ok-enter_seed+in_ok-grow+else-not-branch+in_ok-group+in_ok-push, else-not-contains}
 
 pub returns-in_err-starts-clause-paid : goal.returns-in_err-starts-clause-paid
 returns-in_err-starts-clause-paid g c =
     let core = core_in c.args.counts.now in
     let near = near_in g.M.Metric.dist c.args.eps c.args.records.now in
     let cost = cost_at (g.I.RangeIndex.cost c.args.index.now) c.args.records.now c.args.eps in
-    let former = c.args.former.now in
+    let former = remaining c.args.counts.now c.args.labels.now c.args.label in
     let seeds = c.args.seeds.now in
     paid_none core near cost former seeds c.args.steps.now
 
@@ -24,7 +25,7 @@ returns-in_err-starts-clause-counted g c =
     let core = core_in c.args.counts.now in
     let near = near_in g.M.Metric.dist c.args.eps c.args.records.now in
     let cost = cost_at (g.I.RangeIndex.cost c.args.index.now) c.args.records.now c.args.eps in
-    let former = c.args.former.now in
+    let former = remaining c.args.counts.now c.args.labels.now c.args.label in
     let seeds = c.args.seeds.now in
     bounded_none core near cost former seeds c.args.steps.now
 
@@ -33,7 +34,7 @@ returns-in_err-growth-clause-paid g c =
     let core = core_in c.args.counts.now in
     let near = near_in g.M.Metric.dist c.args.eps c.args.records.now in
     let cost = cost_at (g.I.RangeIndex.cost c.args.index.now) c.args.records.now c.args.eps in
-    let former = c.args.former.now in
+    let former = remaining c.args.counts.now c.args.labels.now c.args.label in
     let seeds = c.args.seeds.now in
     paid_none core near cost former seeds c.args.steps.now
 
@@ -42,7 +43,7 @@ returns-in_err-growth-clause-counted g c =
     let core = core_in c.args.counts.now in
     let near = near_in g.M.Metric.dist c.args.eps c.args.records.now in
     let cost = cost_at (g.I.RangeIndex.cost c.args.index.now) c.args.records.now c.args.eps in
-    let former = c.args.former.now in
+    let former = remaining c.args.counts.now c.args.labels.now c.args.label in
     let seeds = c.args.seeds.now in
     bounded_none core near cost former seeds c.args.steps.now
 
@@ -51,7 +52,7 @@ returns-then-many-lt2-clause-paid g c =
     let core = core_in c.args.counts.now in
     let near = near_in g.M.Metric.dist c.args.eps c.args.records.now in
     let cost = cost_at (g.I.RangeIndex.cost c.args.index.now) c.args.records.now c.args.eps in
-    let former = c.args.former.now in
+    let former = remaining c.args.counts.now c.args.labels.now c.args.label in
     let seeds = c.args.seeds.now in
     paid_none core near cost former seeds c.args.steps.now
 
@@ -60,20 +61,20 @@ returns-then-many-lt2-clause-counted g c =
     let core = core_in c.args.counts.now in
     let near = near_in g.M.Metric.dist c.args.eps c.args.records.now in
     let cost = cost_at (g.I.RangeIndex.cost c.args.index.now) c.args.records.now c.args.eps in
-    let former = c.args.former.now in
+    let former = remaining c.args.counts.now c.args.labels.now c.args.label in
     let seeds = c.args.seeds.now in
     bounded_none core near cost former seeds c.args.steps.now
 
 pub returns-then-many-lt2-clause-groups : goal.returns-then-many-lt2-clause-groups
 returns-then-many-lt2-clause-groups g c =
-    subst (AreGroupsOf c.args.former.now) (sym c.new-groups.ensures) (no_groups c.args.former.now)
+    subst (AreGroupsOf (remaining c.args.counts.now c.args.labels.now c.args.label)) (sym c.new-groups.ensures) (no_groups (remaining c.args.counts.now c.args.labels.now c.args.label))
 
 pub returns-then-many-lt2-clause-split : goal.returns-then-many-lt2-clause-split
 returns-then-many-lt2-clause-split g c =
     let core = core_in c.args.counts.now in
     let near = near_in g.M.Metric.dist c.args.eps c.args.records.now in
     let cost = cost_at (g.I.RangeIndex.cost c.args.index.now) c.args.records.now c.args.eps in
-    let former = c.args.former.now in
+    let former = remaining c.args.counts.now c.args.labels.now c.args.label in
     let seeds = c.args.seeds.now in
     let alike = near_alike g.M.Metric.dist c.args.eps 1 c.args.records.now.width c.args.records.now.vectors c.width.ensures.vectors (λ (u v : List ℕ). g.met.M.Metric.symmetry c.args.records.now.width u v c.width.ensures.width) in
     let few : length c.in_ok-starts.starts.keys < 2 = omega (arith, c.if-many-lt2.true, c.len-many.ensures.len) in
@@ -84,21 +85,21 @@ loop-k-init g c =
     let core = core_in c.args.counts.now in
     let near = near_in g.M.Metric.dist c.args.eps c.args.records.now in
     let cost = cost_at (g.I.RangeIndex.cost c.args.index.now) c.args.records.now c.args.eps in
-    let former = c.args.former.now in
+    let former = remaining c.args.counts.now c.args.labels.now c.args.label in
     let seeds = c.args.seeds.now in
     let starts = c.in_ok-starts.starts.keys in
     let grown = c.in_ok-growth.growth in
     let n = c.args.steps.now in
-    let start : IsKnown core near cost former seeds grown [] (length starts) 0 n n = known_start core near cost former seeds starts grown n c.in_ok-starts.ensures.set c.in_ok-starts.ensures.order c.in_ok-growth.ensures in
+    let start : IsKnown core near cost former seeds grown [] (length starts) 0 n n = known_start core near cost former seeds starts grown n c.requires.seeds c.in_ok-starts.ensures.set c.in_ok-starts.ensures.order c.in_ok-growth.ensures in
     subst (λ (gs : List (List ℕ)). IsKnown core near cost former seeds grown gs c.len-many.result 0 n n) (sym c.new-groups.ensures)
     (subst (λ (m : ℕ). IsKnown core near cost former seeds grown [] m 0 n n) (sym c.len-many.ensures.len) start)
 
-pub enter-requires-clause-member : goal.enter-requires-clause-member
-enter-requires-clause-member g c =
+pub enter_seed-requires-clause-seed : goal.enter_seed-requires-clause-seed
+enter_seed-requires-clause-seed g c =
     let core = core_in c.args.counts.now in
     let near = near_in g.M.Metric.dist c.args.eps c.args.records.now in
     let cost = cost_at (g.I.RangeIndex.cost c.args.index.now) c.args.records.now c.args.eps in
-    let former = c.args.former.now in
+    let former = remaining c.args.counts.now c.args.labels.now c.args.label in
     let seeds = c.args.seeds.now in
     let alike = near_alike g.M.Metric.dist c.args.eps 1 c.args.records.now.width c.args.records.now.vectors c.width.ensures.vectors (λ (u v : List ℕ). g.met.M.Metric.symmetry c.args.records.now.width u v c.width.ensures.width) in
     let grown = c.loop-k.growth in
@@ -108,19 +109,19 @@ enter-requires-clause-member g c =
     let at : get_or grown.seeds.keys c.loop-k.k 0 ≡ s = ap (λ (xs : List ℕ). get_or xs c.loop-k.k 0) (sym c.as_slice.ensures.keys) in
     let out : is_in grown.order.keys s ≡ false = out_by s grown.order.keys c.contains.result c.contains.ensures c.if-not-contains.true in
     let lt = c.loop-k-test.true in
-    seed_in core near cost former seeds alike grown groups c.len-many.result c.loop-k.k c.args.steps.now c.loop-k.steps inv s at lt c.requires.seeds
+    seed_in core near cost former seeds alike grown groups c.len-many.result c.loop-k.k c.args.steps.now c.loop-k.steps inv s at lt
 
 pub grow-requires-clause-alike : goal.grow-requires-clause-alike
 grow-requires-clause-alike g c =
     let alike = near_alike g.M.Metric.dist c.args.eps 1 c.args.records.now.width c.args.records.now.vectors c.width.ensures.vectors (λ (u v : List ℕ). g.met.M.Metric.symmetry c.args.records.now.width u v c.width.ensures.width) in
     alike
 
-pub grow-requires-clause-cores : goal.grow-requires-clause-cores
-grow-requires-clause-cores g c =
+pub grow-requires-clause-there : goal.grow-requires-clause-there
+grow-requires-clause-there g c =
     let core = core_in c.args.counts.now in
     let near = near_in g.M.Metric.dist c.args.eps c.args.records.now in
     let cost = cost_at (g.I.RangeIndex.cost c.args.index.now) c.args.records.now c.args.eps in
-    let former = c.args.former.now in
+    let former = remaining c.args.counts.now c.args.labels.now c.args.label in
     let seeds = c.args.seeds.now in
     let alike = near_alike g.M.Metric.dist c.args.eps 1 c.args.records.now.width c.args.records.now.vectors c.width.ensures.vectors (λ (u v : List ℕ). g.met.M.Metric.symmetry c.args.records.now.width u v c.width.ensures.width) in
     let grown = c.loop-k.growth in
@@ -129,14 +130,14 @@ grow-requires-clause-cores g c =
     let s = get_or c.as_slice.result.now c.loop-k.k 0 in
     let at : get_or grown.seeds.keys c.loop-k.k 0 ≡ s = ap (λ (xs : List ℕ). get_or xs c.loop-k.k 0) (sym c.as_slice.ensures.keys) in
     let out : is_in grown.order.keys s ≡ false = out_by s grown.order.keys c.contains.result c.contains.ensures c.if-not-contains.true in
-    cores_in core near cost former seeds alike grown groups c.len-many.result c.loop-k.k c.args.steps.now c.loop-k.steps inv s at c.loop-k-test.true out c.enter.new.self c.in_ok-enter.ensures.members c.in_ok-enter.ensures.seeds c.in_ok-enter.ensures.order c.in_ok-enter.ensures.asked c.args.records.now c.args.counts.now c.requires.former
+    there_in core near cost former seeds alike grown groups c.len-many.result c.loop-k.k c.args.steps.now c.loop-k.steps inv s at c.loop-k-test.true out c.enter_seed.new.self c.in_ok-enter_seed.ensures.members c.in_ok-enter_seed.ensures.seeds c.in_ok-enter_seed.ensures.order c.in_ok-enter_seed.ensures.asked c.args.records.now c.args.counts.now c.requires.former
 
 pub grow-requires-clause-asked : goal.grow-requires-clause-asked
 grow-requires-clause-asked g c =
     let core = core_in c.args.counts.now in
     let near = near_in g.M.Metric.dist c.args.eps c.args.records.now in
     let cost = cost_at (g.I.RangeIndex.cost c.args.index.now) c.args.records.now c.args.eps in
-    let former = c.args.former.now in
+    let former = remaining c.args.counts.now c.args.labels.now c.args.label in
     let seeds = c.args.seeds.now in
     let alike = near_alike g.M.Metric.dist c.args.eps 1 c.args.records.now.width c.args.records.now.vectors c.width.ensures.vectors (λ (u v : List ℕ). g.met.M.Metric.symmetry c.args.records.now.width u v c.width.ensures.width) in
     let grown = c.loop-k.growth in
@@ -145,14 +146,14 @@ grow-requires-clause-asked g c =
     let s = get_or c.as_slice.result.now c.loop-k.k 0 in
     let at : get_or grown.seeds.keys c.loop-k.k 0 ≡ s = ap (λ (xs : List ℕ). get_or xs c.loop-k.k 0) (sym c.as_slice.ensures.keys) in
     let out : is_in grown.order.keys s ≡ false = out_by s grown.order.keys c.contains.result c.contains.ensures c.if-not-contains.true in
-    entered_few core near cost former seeds alike grown groups c.len-many.result c.loop-k.k c.args.steps.now c.loop-k.steps inv s at c.loop-k-test.true out c.enter.new.self c.in_ok-enter.ensures.members c.in_ok-enter.ensures.seeds c.in_ok-enter.ensures.order c.in_ok-enter.ensures.asked
+    entered_few core near cost former seeds alike grown groups c.len-many.result c.loop-k.k c.args.steps.now c.loop-k.steps inv s at c.loop-k-test.true out c.enter_seed.new.self c.in_ok-enter_seed.ensures.members c.in_ok-enter_seed.ensures.seeds c.in_ok-enter_seed.ensures.order c.in_ok-enter_seed.ensures.asked
 
 pub since-requires : goal.since-requires
 since-requires g c =
     let core = core_in c.args.counts.now in
     let near = near_in g.M.Metric.dist c.args.eps c.args.records.now in
     let cost = cost_at (g.I.RangeIndex.cost c.args.index.now) c.args.records.now c.args.eps in
-    let former = c.args.former.now in
+    let former = remaining c.args.counts.now c.args.labels.now c.args.label in
     let seeds = c.args.seeds.now in
     let alike = near_alike g.M.Metric.dist c.args.eps 1 c.args.records.now.width c.args.records.now.vectors c.width.ensures.vectors (λ (u v : List ℕ). g.met.M.Metric.symmetry c.args.records.now.width u v c.width.ensures.width) in
     let grown = c.loop-k.growth in
@@ -161,14 +162,14 @@ since-requires g c =
     let s = get_or c.as_slice.result.now c.loop-k.k 0 in
     let at : get_or grown.seeds.keys c.loop-k.k 0 ≡ s = ap (λ (xs : List ℕ). get_or xs c.loop-k.k 0) (sym c.as_slice.ensures.keys) in
     let out : is_in grown.order.keys s ≡ false = out_by s grown.order.keys c.contains.result c.contains.ensures c.if-not-contains.true in
-    begins_in core near cost former seeds alike grown groups c.len-many.result c.loop-k.k c.args.steps.now c.loop-k.steps inv s at c.loop-k-test.true out c.enter.new.self c.in_ok-enter.ensures.members c.in_ok-enter.ensures.seeds c.in_ok-enter.ensures.order c.in_ok-enter.ensures.asked c.grow.new.growth c.in_ok-grow.ensures.order
+    begins_in core near cost former seeds alike grown groups c.len-many.result c.loop-k.k c.args.steps.now c.loop-k.steps inv s at c.loop-k-test.true out c.enter_seed.new.self c.in_ok-enter_seed.ensures.members c.in_ok-enter_seed.ensures.seeds c.in_ok-enter_seed.ensures.order c.in_ok-enter_seed.ensures.asked c.grow.new.growth c.in_ok-grow.ensures.order
 
-pub returns-in_err-enter-clause-paid : goal.returns-in_err-enter-clause-paid
-returns-in_err-enter-clause-paid g c =
+pub returns-in_err-enter_seed-clause-paid : goal.returns-in_err-enter_seed-clause-paid
+returns-in_err-enter_seed-clause-paid g c =
     let core = core_in c.args.counts.now in
     let near = near_in g.M.Metric.dist c.args.eps c.args.records.now in
     let cost = cost_at (g.I.RangeIndex.cost c.args.index.now) c.args.records.now c.args.eps in
-    let former = c.args.former.now in
+    let former = remaining c.args.counts.now c.args.labels.now c.args.label in
     let seeds = c.args.seeds.now in
     let alike = near_alike g.M.Metric.dist c.args.eps 1 c.args.records.now.width c.args.records.now.vectors c.width.ensures.vectors (λ (u v : List ℕ). g.met.M.Metric.symmetry c.args.records.now.width u v c.width.ensures.width) in
     let grown = c.loop-k.growth in
@@ -176,12 +177,12 @@ returns-in_err-enter-clause-paid g c =
     let inv = c.loop-k.invariant in
     paid_now core near cost former seeds alike grown groups c.len-many.result c.loop-k.k c.args.steps.now c.loop-k.steps inv
 
-pub returns-in_err-enter-clause-counted : goal.returns-in_err-enter-clause-counted
-returns-in_err-enter-clause-counted g c =
+pub returns-in_err-enter_seed-clause-counted : goal.returns-in_err-enter_seed-clause-counted
+returns-in_err-enter_seed-clause-counted g c =
     let core = core_in c.args.counts.now in
     let near = near_in g.M.Metric.dist c.args.eps c.args.records.now in
     let cost = cost_at (g.I.RangeIndex.cost c.args.index.now) c.args.records.now c.args.eps in
-    let former = c.args.former.now in
+    let former = remaining c.args.counts.now c.args.labels.now c.args.label in
     let seeds = c.args.seeds.now in
     let alike = near_alike g.M.Metric.dist c.args.eps 1 c.args.records.now.width c.args.records.now.vectors c.width.ensures.vectors (λ (u v : List ℕ). g.met.M.Metric.symmetry c.args.records.now.width u v c.width.ensures.width) in
     let grown = c.loop-k.growth in
@@ -194,7 +195,7 @@ returns-in_err-grow-clause-paid g c =
     let core = core_in c.args.counts.now in
     let near = near_in g.M.Metric.dist c.args.eps c.args.records.now in
     let cost = cost_at (g.I.RangeIndex.cost c.args.index.now) c.args.records.now c.args.eps in
-    let former = c.args.former.now in
+    let former = remaining c.args.counts.now c.args.labels.now c.args.label in
     let seeds = c.args.seeds.now in
     let alike = near_alike g.M.Metric.dist c.args.eps 1 c.args.records.now.width c.args.records.now.vectors c.width.ensures.vectors (λ (u v : List ℕ). g.met.M.Metric.symmetry c.args.records.now.width u v c.width.ensures.width) in
     let grown = c.loop-k.growth in
@@ -203,14 +204,14 @@ returns-in_err-grow-clause-paid g c =
     let s = get_or c.as_slice.result.now c.loop-k.k 0 in
     let at : get_or grown.seeds.keys c.loop-k.k 0 ≡ s = ap (λ (xs : List ℕ). get_or xs c.loop-k.k 0) (sym c.as_slice.ensures.keys) in
     let out : is_in grown.order.keys s ≡ false = out_by s grown.order.keys c.contains.result c.contains.ensures c.if-not-contains.true in
-    paid_then core near cost former seeds alike grown groups c.len-many.result c.loop-k.k c.args.steps.now c.loop-k.steps inv s at c.loop-k-test.true out c.enter.new.self c.in_ok-enter.ensures.members c.in_ok-enter.ensures.seeds c.in_ok-enter.ensures.order c.in_ok-enter.ensures.asked c.grow.new.steps c.grow.ensures.paid
+    paid_then core near cost former seeds alike grown groups c.len-many.result c.loop-k.k c.args.steps.now c.loop-k.steps inv s at c.loop-k-test.true out c.enter_seed.new.self c.in_ok-enter_seed.ensures.members c.in_ok-enter_seed.ensures.seeds c.in_ok-enter_seed.ensures.order c.in_ok-enter_seed.ensures.asked c.grow.new.steps (c.grow.ensures.paid core)
 
 pub returns-in_err-grow-clause-counted : goal.returns-in_err-grow-clause-counted
 returns-in_err-grow-clause-counted g c =
     let core = core_in c.args.counts.now in
     let near = near_in g.M.Metric.dist c.args.eps c.args.records.now in
     let cost = cost_at (g.I.RangeIndex.cost c.args.index.now) c.args.records.now c.args.eps in
-    let former = c.args.former.now in
+    let former = remaining c.args.counts.now c.args.labels.now c.args.label in
     let seeds = c.args.seeds.now in
     let alike = near_alike g.M.Metric.dist c.args.eps 1 c.args.records.now.width c.args.records.now.vectors c.width.ensures.vectors (λ (u v : List ℕ). g.met.M.Metric.symmetry c.args.records.now.width u v c.width.ensures.width) in
     let grown = c.loop-k.growth in
@@ -219,14 +220,14 @@ returns-in_err-grow-clause-counted g c =
     let s = get_or c.as_slice.result.now c.loop-k.k 0 in
     let at : get_or grown.seeds.keys c.loop-k.k 0 ≡ s = ap (λ (xs : List ℕ). get_or xs c.loop-k.k 0) (sym c.as_slice.ensures.keys) in
     let out : is_in grown.order.keys s ≡ false = out_by s grown.order.keys c.contains.result c.contains.ensures c.if-not-contains.true in
-    bounded_then core near cost former seeds alike grown groups c.len-many.result c.loop-k.k c.args.steps.now c.loop-k.steps inv s at c.loop-k-test.true out c.enter.new.self c.in_ok-enter.ensures.members c.in_ok-enter.ensures.seeds c.in_ok-enter.ensures.order c.in_ok-enter.ensures.asked c.grow.new.steps c.grow.ensures.paid
+    bounded_then core near cost former seeds alike grown groups c.len-many.result c.loop-k.k c.args.steps.now c.loop-k.steps inv s at c.loop-k-test.true out c.enter_seed.new.self c.in_ok-enter_seed.ensures.members c.in_ok-enter_seed.ensures.seeds c.in_ok-enter_seed.ensures.order c.in_ok-enter_seed.ensures.asked c.grow.new.steps (c.grow.ensures.paid core)
 
 pub returns-then-not-branch-clause-paid : goal.returns-then-not-branch-clause-paid
 returns-then-not-branch-clause-paid g c =
     let core = core_in c.args.counts.now in
     let near = near_in g.M.Metric.dist c.args.eps c.args.records.now in
     let cost = cost_at (g.I.RangeIndex.cost c.args.index.now) c.args.records.now c.args.eps in
-    let former = c.args.former.now in
+    let former = remaining c.args.counts.now c.args.labels.now c.args.label in
     let seeds = c.args.seeds.now in
     let alike = near_alike g.M.Metric.dist c.args.eps 1 c.args.records.now.width c.args.records.now.vectors c.width.ensures.vectors (λ (u v : List ℕ). g.met.M.Metric.symmetry c.args.records.now.width u v c.width.ensures.width) in
     let grown = c.loop-k.growth in
@@ -235,14 +236,14 @@ returns-then-not-branch-clause-paid g c =
     let s = get_or c.as_slice.result.now c.loop-k.k 0 in
     let at : get_or grown.seeds.keys c.loop-k.k 0 ≡ s = ap (λ (xs : List ℕ). get_or xs c.loop-k.k 0) (sym c.as_slice.ensures.keys) in
     let out : is_in grown.order.keys s ≡ false = out_by s grown.order.keys c.contains.result c.contains.ensures c.if-not-contains.true in
-    paid_then core near cost former seeds alike grown groups c.len-many.result c.loop-k.k c.args.steps.now c.loop-k.steps inv s at c.loop-k-test.true out c.enter.new.self c.in_ok-enter.ensures.members c.in_ok-enter.ensures.seeds c.in_ok-enter.ensures.order c.in_ok-enter.ensures.asked c.grow.new.steps c.grow.ensures.paid
+    paid_then core near cost former seeds alike grown groups c.len-many.result c.loop-k.k c.args.steps.now c.loop-k.steps inv s at c.loop-k-test.true out c.enter_seed.new.self c.in_ok-enter_seed.ensures.members c.in_ok-enter_seed.ensures.seeds c.in_ok-enter_seed.ensures.order c.in_ok-enter_seed.ensures.asked c.grow.new.steps (c.grow.ensures.paid core)
 
 pub returns-then-not-branch-clause-counted : goal.returns-then-not-branch-clause-counted
 returns-then-not-branch-clause-counted g c =
     let core = core_in c.args.counts.now in
     let near = near_in g.M.Metric.dist c.args.eps c.args.records.now in
     let cost = cost_at (g.I.RangeIndex.cost c.args.index.now) c.args.records.now c.args.eps in
-    let former = c.args.former.now in
+    let former = remaining c.args.counts.now c.args.labels.now c.args.label in
     let seeds = c.args.seeds.now in
     let alike = near_alike g.M.Metric.dist c.args.eps 1 c.args.records.now.width c.args.records.now.vectors c.width.ensures.vectors (λ (u v : List ℕ). g.met.M.Metric.symmetry c.args.records.now.width u v c.width.ensures.width) in
     let grown = c.loop-k.growth in
@@ -251,14 +252,14 @@ returns-then-not-branch-clause-counted g c =
     let s = get_or c.as_slice.result.now c.loop-k.k 0 in
     let at : get_or grown.seeds.keys c.loop-k.k 0 ≡ s = ap (λ (xs : List ℕ). get_or xs c.loop-k.k 0) (sym c.as_slice.ensures.keys) in
     let out : is_in grown.order.keys s ≡ false = out_by s grown.order.keys c.contains.result c.contains.ensures c.if-not-contains.true in
-    bounded_then core near cost former seeds alike grown groups c.len-many.result c.loop-k.k c.args.steps.now c.loop-k.steps inv s at c.loop-k-test.true out c.enter.new.self c.in_ok-enter.ensures.members c.in_ok-enter.ensures.seeds c.in_ok-enter.ensures.order c.in_ok-enter.ensures.asked c.grow.new.steps c.grow.ensures.paid
+    bounded_then core near cost former seeds alike grown groups c.len-many.result c.loop-k.k c.args.steps.now c.loop-k.steps inv s at c.loop-k-test.true out c.enter_seed.new.self c.in_ok-enter_seed.ensures.members c.in_ok-enter_seed.ensures.seeds c.in_ok-enter_seed.ensures.order c.in_ok-enter_seed.ensures.asked c.grow.new.steps (c.grow.ensures.paid core)
 
 pub returns-in_err-group-clause-paid : goal.returns-in_err-group-clause-paid
 returns-in_err-group-clause-paid g c =
     let core = core_in c.args.counts.now in
     let near = near_in g.M.Metric.dist c.args.eps c.args.records.now in
     let cost = cost_at (g.I.RangeIndex.cost c.args.index.now) c.args.records.now c.args.eps in
-    let former = c.args.former.now in
+    let former = remaining c.args.counts.now c.args.labels.now c.args.label in
     let seeds = c.args.seeds.now in
     let alike = near_alike g.M.Metric.dist c.args.eps 1 c.args.records.now.width c.args.records.now.vectors c.width.ensures.vectors (λ (u v : List ℕ). g.met.M.Metric.symmetry c.args.records.now.width u v c.width.ensures.width) in
     let grown = c.loop-k.growth in
@@ -267,14 +268,14 @@ returns-in_err-group-clause-paid g c =
     let s = get_or c.as_slice.result.now c.loop-k.k 0 in
     let at : get_or grown.seeds.keys c.loop-k.k 0 ≡ s = ap (λ (xs : List ℕ). get_or xs c.loop-k.k 0) (sym c.as_slice.ensures.keys) in
     let out : is_in grown.order.keys s ≡ false = out_by s grown.order.keys c.contains.result c.contains.ensures c.if-not-contains.true in
-    paid_then core near cost former seeds alike grown groups c.len-many.result c.loop-k.k c.args.steps.now c.loop-k.steps inv s at c.loop-k-test.true out c.enter.new.self c.in_ok-enter.ensures.members c.in_ok-enter.ensures.seeds c.in_ok-enter.ensures.order c.in_ok-enter.ensures.asked c.grow.new.steps c.grow.ensures.paid
+    paid_then core near cost former seeds alike grown groups c.len-many.result c.loop-k.k c.args.steps.now c.loop-k.steps inv s at c.loop-k-test.true out c.enter_seed.new.self c.in_ok-enter_seed.ensures.members c.in_ok-enter_seed.ensures.seeds c.in_ok-enter_seed.ensures.order c.in_ok-enter_seed.ensures.asked c.grow.new.steps (c.grow.ensures.paid core)
 
 pub returns-in_err-group-clause-counted : goal.returns-in_err-group-clause-counted
 returns-in_err-group-clause-counted g c =
     let core = core_in c.args.counts.now in
     let near = near_in g.M.Metric.dist c.args.eps c.args.records.now in
     let cost = cost_at (g.I.RangeIndex.cost c.args.index.now) c.args.records.now c.args.eps in
-    let former = c.args.former.now in
+    let former = remaining c.args.counts.now c.args.labels.now c.args.label in
     let seeds = c.args.seeds.now in
     let alike = near_alike g.M.Metric.dist c.args.eps 1 c.args.records.now.width c.args.records.now.vectors c.width.ensures.vectors (λ (u v : List ℕ). g.met.M.Metric.symmetry c.args.records.now.width u v c.width.ensures.width) in
     let grown = c.loop-k.growth in
@@ -283,14 +284,14 @@ returns-in_err-group-clause-counted g c =
     let s = get_or c.as_slice.result.now c.loop-k.k 0 in
     let at : get_or grown.seeds.keys c.loop-k.k 0 ≡ s = ap (λ (xs : List ℕ). get_or xs c.loop-k.k 0) (sym c.as_slice.ensures.keys) in
     let out : is_in grown.order.keys s ≡ false = out_by s grown.order.keys c.contains.result c.contains.ensures c.if-not-contains.true in
-    bounded_then core near cost former seeds alike grown groups c.len-many.result c.loop-k.k c.args.steps.now c.loop-k.steps inv s at c.loop-k-test.true out c.enter.new.self c.in_ok-enter.ensures.members c.in_ok-enter.ensures.seeds c.in_ok-enter.ensures.order c.in_ok-enter.ensures.asked c.grow.new.steps c.grow.ensures.paid
+    bounded_then core near cost former seeds alike grown groups c.len-many.result c.loop-k.k c.args.steps.now c.loop-k.steps inv s at c.loop-k-test.true out c.enter_seed.new.self c.in_ok-enter_seed.ensures.members c.in_ok-enter_seed.ensures.seeds c.in_ok-enter_seed.ensures.order c.in_ok-enter_seed.ensures.asked c.grow.new.steps (c.grow.ensures.paid core)
 
 pub returns-in_err-push-clause-paid : goal.returns-in_err-push-clause-paid
 returns-in_err-push-clause-paid g c =
     let core = core_in c.args.counts.now in
     let near = near_in g.M.Metric.dist c.args.eps c.args.records.now in
     let cost = cost_at (g.I.RangeIndex.cost c.args.index.now) c.args.records.now c.args.eps in
-    let former = c.args.former.now in
+    let former = remaining c.args.counts.now c.args.labels.now c.args.label in
     let seeds = c.args.seeds.now in
     let alike = near_alike g.M.Metric.dist c.args.eps 1 c.args.records.now.width c.args.records.now.vectors c.width.ensures.vectors (λ (u v : List ℕ). g.met.M.Metric.symmetry c.args.records.now.width u v c.width.ensures.width) in
     let grown = c.loop-k.growth in
@@ -299,14 +300,14 @@ returns-in_err-push-clause-paid g c =
     let s = get_or c.as_slice.result.now c.loop-k.k 0 in
     let at : get_or grown.seeds.keys c.loop-k.k 0 ≡ s = ap (λ (xs : List ℕ). get_or xs c.loop-k.k 0) (sym c.as_slice.ensures.keys) in
     let out : is_in grown.order.keys s ≡ false = out_by s grown.order.keys c.contains.result c.contains.ensures c.if-not-contains.true in
-    paid_then core near cost former seeds alike grown groups c.len-many.result c.loop-k.k c.args.steps.now c.loop-k.steps inv s at c.loop-k-test.true out c.enter.new.self c.in_ok-enter.ensures.members c.in_ok-enter.ensures.seeds c.in_ok-enter.ensures.order c.in_ok-enter.ensures.asked c.grow.new.steps c.grow.ensures.paid
+    paid_then core near cost former seeds alike grown groups c.len-many.result c.loop-k.k c.args.steps.now c.loop-k.steps inv s at c.loop-k-test.true out c.enter_seed.new.self c.in_ok-enter_seed.ensures.members c.in_ok-enter_seed.ensures.seeds c.in_ok-enter_seed.ensures.order c.in_ok-enter_seed.ensures.asked c.grow.new.steps (c.grow.ensures.paid core)
 
 pub returns-in_err-push-clause-counted : goal.returns-in_err-push-clause-counted
 returns-in_err-push-clause-counted g c =
     let core = core_in c.args.counts.now in
     let near = near_in g.M.Metric.dist c.args.eps c.args.records.now in
     let cost = cost_at (g.I.RangeIndex.cost c.args.index.now) c.args.records.now c.args.eps in
-    let former = c.args.former.now in
+    let former = remaining c.args.counts.now c.args.labels.now c.args.label in
     let seeds = c.args.seeds.now in
     let alike = near_alike g.M.Metric.dist c.args.eps 1 c.args.records.now.width c.args.records.now.vectors c.width.ensures.vectors (λ (u v : List ℕ). g.met.M.Metric.symmetry c.args.records.now.width u v c.width.ensures.width) in
     let grown = c.loop-k.growth in
@@ -315,14 +316,14 @@ returns-in_err-push-clause-counted g c =
     let s = get_or c.as_slice.result.now c.loop-k.k 0 in
     let at : get_or grown.seeds.keys c.loop-k.k 0 ≡ s = ap (λ (xs : List ℕ). get_or xs c.loop-k.k 0) (sym c.as_slice.ensures.keys) in
     let out : is_in grown.order.keys s ≡ false = out_by s grown.order.keys c.contains.result c.contains.ensures c.if-not-contains.true in
-    bounded_then core near cost former seeds alike grown groups c.len-many.result c.loop-k.k c.args.steps.now c.loop-k.steps inv s at c.loop-k-test.true out c.enter.new.self c.in_ok-enter.ensures.members c.in_ok-enter.ensures.seeds c.in_ok-enter.ensures.order c.in_ok-enter.ensures.asked c.grow.new.steps c.grow.ensures.paid
+    bounded_then core near cost former seeds alike grown groups c.len-many.result c.loop-k.k c.args.steps.now c.loop-k.steps inv s at c.loop-k-test.true out c.enter_seed.new.self c.in_ok-enter_seed.ensures.members c.in_ok-enter_seed.ensures.seeds c.in_ok-enter_seed.ensures.order c.in_ok-enter_seed.ensures.asked c.grow.new.steps (c.grow.ensures.paid core)
 
 pub returns-then-not-branch-clause-groups : goal.returns-then-not-branch-clause-groups
 returns-then-not-branch-clause-groups g c =
     let core = core_in c.args.counts.now in
     let near = near_in g.M.Metric.dist c.args.eps c.args.records.now in
     let cost = cost_at (g.I.RangeIndex.cost c.args.index.now) c.args.records.now c.args.eps in
-    let former = c.args.former.now in
+    let former = remaining c.args.counts.now c.args.labels.now c.args.label in
     let seeds = c.args.seeds.now in
     let alike = near_alike g.M.Metric.dist c.args.eps 1 c.args.records.now.width c.args.records.now.vectors c.width.ensures.vectors (λ (u v : List ℕ). g.met.M.Metric.symmetry c.args.records.now.width u v c.width.ensures.width) in
     let grown = c.loop-k.growth in
@@ -335,7 +336,7 @@ returns-then-not-branch-clause-split g c =
     let core = core_in c.args.counts.now in
     let near = near_in g.M.Metric.dist c.args.eps c.args.records.now in
     let cost = cost_at (g.I.RangeIndex.cost c.args.index.now) c.args.records.now c.args.eps in
-    let former = c.args.former.now in
+    let former = remaining c.args.counts.now c.args.labels.now c.args.label in
     let seeds = c.args.seeds.now in
     let alike = near_alike g.M.Metric.dist c.args.eps 1 c.args.records.now.width c.args.records.now.vectors c.width.ensures.vectors (λ (u v : List ℕ). g.met.M.Metric.symmetry c.args.records.now.width u v c.width.ensures.width) in
     let grown = c.loop-k.growth in
@@ -344,14 +345,14 @@ returns-then-not-branch-clause-split g c =
     let s = get_or c.as_slice.result.now c.loop-k.k 0 in
     let at : get_or grown.seeds.keys c.loop-k.k 0 ≡ s = ap (λ (xs : List ℕ). get_or xs c.loop-k.k 0) (sym c.as_slice.ensures.keys) in
     let out : is_in grown.order.keys s ≡ false = out_by s grown.order.keys c.contains.result c.contains.ensures c.if-not-contains.true in
-    split_then core near cost former seeds alike grown groups c.len-many.result c.loop-k.k c.args.steps.now c.loop-k.steps inv s at c.loop-k-test.true out c.enter.new.self c.in_ok-enter.ensures.members c.in_ok-enter.ensures.seeds c.in_ok-enter.ensures.order c.in_ok-enter.ensures.asked c.grow.new.steps c.grow.ensures.paid (c.in_ok-grow.ensures.last c.if-not-branch.true)
+    split_then core near cost former seeds alike grown groups c.len-many.result c.loop-k.k c.args.steps.now c.loop-k.steps inv s at c.loop-k-test.true out c.enter_seed.new.self c.in_ok-enter_seed.ensures.members c.in_ok-enter_seed.ensures.seeds c.in_ok-enter_seed.ensures.order c.in_ok-enter_seed.ensures.asked c.grow.new.steps (c.grow.ensures.paid core) (c.in_ok-grow.ensures.last c.if-not-branch.true core)
 
 pub returns-clause-groups : goal.returns-clause-groups
 returns-clause-groups g c =
     let core = core_in c.args.counts.now in
     let near = near_in g.M.Metric.dist c.args.eps c.args.records.now in
     let cost = cost_at (g.I.RangeIndex.cost c.args.index.now) c.args.records.now c.args.eps in
-    let former = c.args.former.now in
+    let former = remaining c.args.counts.now c.args.labels.now c.args.label in
     let seeds = c.args.seeds.now in
     let alike = near_alike g.M.Metric.dist c.args.eps 1 c.args.records.now.width c.args.records.now.vectors c.width.ensures.vectors (λ (u v : List ℕ). g.met.M.Metric.symmetry c.args.records.now.width u v c.width.ensures.width) in
     let grown = c.loop-k.growth in
@@ -364,7 +365,7 @@ returns-clause-split g c =
     let core = core_in c.args.counts.now in
     let near = near_in g.M.Metric.dist c.args.eps c.args.records.now in
     let cost = cost_at (g.I.RangeIndex.cost c.args.index.now) c.args.records.now c.args.eps in
-    let former = c.args.former.now in
+    let former = remaining c.args.counts.now c.args.labels.now c.args.label in
     let seeds = c.args.seeds.now in
     let alike = near_alike g.M.Metric.dist c.args.eps 1 c.args.records.now.width c.args.records.now.vectors c.width.ensures.vectors (λ (u v : List ℕ). g.met.M.Metric.symmetry c.args.records.now.width u v c.width.ensures.width) in
     let grown = c.loop-k.growth in
@@ -377,7 +378,7 @@ returns-clause-paid g c =
     let core = core_in c.args.counts.now in
     let near = near_in g.M.Metric.dist c.args.eps c.args.records.now in
     let cost = cost_at (g.I.RangeIndex.cost c.args.index.now) c.args.records.now c.args.eps in
-    let former = c.args.former.now in
+    let former = remaining c.args.counts.now c.args.labels.now c.args.label in
     let seeds = c.args.seeds.now in
     let alike = near_alike g.M.Metric.dist c.args.eps 1 c.args.records.now.width c.args.records.now.vectors c.width.ensures.vectors (λ (u v : List ℕ). g.met.M.Metric.symmetry c.args.records.now.width u v c.width.ensures.width) in
     let grown = c.loop-k.growth in
@@ -390,7 +391,7 @@ returns-clause-counted g c =
     let core = core_in c.args.counts.now in
     let near = near_in g.M.Metric.dist c.args.eps c.args.records.now in
     let cost = cost_at (g.I.RangeIndex.cost c.args.index.now) c.args.records.now c.args.eps in
-    let former = c.args.former.now in
+    let former = remaining c.args.counts.now c.args.labels.now c.args.label in
     let seeds = c.args.seeds.now in
     let alike = near_alike g.M.Metric.dist c.args.eps 1 c.args.records.now.width c.args.records.now.vectors c.width.ensures.vectors (λ (u v : List ℕ). g.met.M.Metric.symmetry c.args.records.now.width u v c.width.ensures.width) in
     let grown = c.loop-k.growth in
@@ -403,7 +404,7 @@ loop-k-preserved g c =
     let core = core_in c.args.counts.now in
     let near = near_in g.M.Metric.dist c.args.eps c.args.records.now in
     let cost = cost_at (g.I.RangeIndex.cost c.args.index.now) c.args.records.now c.args.eps in
-    let former = c.args.former.now in
+    let former = remaining c.args.counts.now c.args.labels.now c.args.label in
     let seeds = c.args.seeds.now in
     let alike = near_alike g.M.Metric.dist c.args.eps 1 c.args.records.now.width c.args.records.now.vectors c.width.ensures.vectors (λ (u v : List ℕ). g.met.M.Metric.symmetry c.args.records.now.width u v c.width.ensures.width) in
     let grown = c.loop-k.growth in
@@ -412,13 +413,13 @@ loop-k-preserved g c =
     let s = get_or c.as_slice.result.now c.loop-k.k 0 in
     let at : get_or grown.seeds.keys c.loop-k.k 0 ≡ s = ap (λ (xs : List ℕ). get_or xs c.loop-k.k 0) (sym c.as_slice.ensures.keys) in
     elim c.if-not-contains.branch [
-      | then-not-contains+in_ok-enter+in_ok-grow+else-not-branch+in_ok-group+in_ok-push w ↦
+      | then-not-contains+in_ok-enter_seed+in_ok-grow+else-not-branch+in_ok-group+in_ok-push w ↦
           let out : is_in grown.order.keys s ≡ false = out_by s grown.order.keys c.contains.result c.contains.ensures w.if-not-contains.true in
           let e = w.in_ok-grow.ensures in
           let group = w.in_ok-group.group in
           let t = w.if-not-branch.false in
           let more : IsKnown core near cost former seeds w.grow.new.growth (groups ++ group ∷ []) c.len-many.result (c.loop-k.k + 1) c.args.steps.now w.grow.new.steps =
-          known_more core near cost former seeds alike grown groups c.len-many.result c.loop-k.k c.args.steps.now c.loop-k.steps inv s at c.loop-k-test.true out w.enter.new.self w.in_ok-enter.ensures.members w.in_ok-enter.ensures.seeds w.in_ok-enter.ensures.order w.in_ok-enter.ensures.asked w.grow.new.steps w.grow.ensures.paid w.grow.new.growth e.order e.sound (e.asked t) (e.whole t) group w.in_ok-group.ensures
+          known_more core near cost former seeds alike grown groups c.len-many.result c.loop-k.k c.args.steps.now c.loop-k.steps inv s at c.loop-k-test.true out w.enter_seed.new.self w.in_ok-enter_seed.ensures.members w.in_ok-enter_seed.ensures.seeds w.in_ok-enter_seed.ensures.order w.in_ok-enter_seed.ensures.asked w.grow.new.steps (w.grow.ensures.paid core) w.grow.new.growth e.order e.sound (e.asked t) (e.whole t core) group w.in_ok-group.ensures
           in
           rw (w.steps-is, w.growth-is, w.groups-is)
           (subst (λ (gs : List (List ℕ)). IsKnown core near cost former seeds w.grow.new.growth gs c.len-many.result (c.loop-k.k + 1) c.args.steps.now w.grow.new.steps) (sym w.in_ok-push.ensures.ok) more)
@@ -430,11 +431,11 @@ loop-k-preserved g c =
 pub bounds-as_slice-k : goal.bounds-as_slice-k
 bounds-as_slice-k g c = omega (arith, c.loop-k-test.true, c.loop-k.invariant.long, ap length c.as_slice.ensures.keys)
 
-pub enter-requires-clause-sound : goal.enter-requires-clause-sound
-enter-requires-clause-sound g c = c.loop-k.invariant.sound
+pub enter_seed-requires-clause-sound : goal.enter_seed-requires-clause-sound
+enter_seed-requires-clause-sound g c = c.loop-k.invariant.sound
 
 pub grow-requires-clause-index : goal.grow-requires-clause-index
 grow-requires-clause-index g c = c.requires.index
 
 pub grow-requires-clause-sound : goal.grow-requires-clause-sound
-grow-requires-clause-sound g c = c.in_ok-enter.ensures.sound
+grow-requires-clause-sound g c = c.in_ok-enter_seed.ensures.sound
