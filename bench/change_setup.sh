@@ -77,6 +77,42 @@ fn draw(state: &mut u32, limit: u32) -> u32
     *state = state.wrapping_mul(1664525).wrapping_add(1013904223);
     (*state >> 8) % limit
 }
+
+// Asks at a record that is there.
+fn query<M: Metric, I: RangeIndex<M>, L: Ledger>(
+    house: &House<I>,
+    eps: u32,
+    number: Number,
+    near: &mut Numbers,
+    steps: &mut Steps<L>,
+) -> Result<(), AllocError>
+    requires { Fits (I.width house.now.index) (I.contents house.now.index) house.now.records
+        house.now.counts house.now.labels }
+{
+    if house.records.get(number).is_some() {
+        ask::<M, I, L>(&house.records, &house.index, number, eps, near, steps)?;
+    }
+    Ok(())
+}
+
+// Nanoseconds of one query at each of these.
+fn ask_all<M: Metric, I: RangeIndex<M>, L: Ledger>(
+    rt: &HostRuntime,
+    house: &House<I>,
+    eps: u32,
+    asked: &[Number],
+    near: &mut Numbers,
+    steps: &mut Steps<L>,
+) -> io::Result<u128>
+    requires { Fits (I.width house.now.index) (I.contents house.now.index) house.now.records
+        house.now.counts house.now.labels }
+{
+    let start = Instant::now(rt)?;
+    for i in 0..asked.len() {
+        query::<M, I, L>(house, eps, asked[i], near, steps)?;
+    }
+    Ok(start.elapsed(rt)?.as_nanos())
+}
 RATTLE
 
 # Proves, builds and runs the program. Its lines are in "$work/here".

@@ -25,23 +25,6 @@ fn bytes_of(alloc: Global, bits: bool, state: &mut u32) -> Result<Vec<u8>, Alloc
     Ok(bytes)
 }
 
-// Asks at a record that is there.
-fn query<M: Metric, I: RangeIndex<M>, L: Ledger>(
-    house: &House<I>,
-    eps: u32,
-    number: Number,
-    near: &mut Numbers,
-    steps: &mut Steps<L>,
-) -> Result<(), AllocError>
-    requires { Fits (I.width house.now.index) (I.contents house.now.index) house.now.records
-        house.now.counts house.now.labels }
-{
-    if house.records.get(number).is_some() {
-        ask::<M, I, L>(&house.records, &house.index, number, eps, near, steps)?;
-    }
-    Ok(())
-}
-
 // Adds the records of the numbers from `from` on and below `to`.
 fn fill<M: Metric, I: RangeIndex<M>, L: Ledger>(
     alloc: Global,
@@ -135,25 +118,6 @@ fn more<M: Metric, I: RangeIndex<M>, L: Ledger>(
         queries,
         asked: asked.len(),
     })
-}
-
-// Nanoseconds of one query at each of these.
-fn ask_all<M: Metric, I: RangeIndex<M>, L: Ledger>(
-    rt: &HostRuntime,
-    house: &House<I>,
-    eps: u32,
-    asked: &[Number],
-    near: &mut Numbers,
-    steps: &mut Steps<L>,
-) -> io::Result<u128>
-    requires { Fits (I.width house.now.index) (I.contents house.now.index) house.now.records
-        house.now.counts house.now.labels }
-{
-    let start = Instant::now(rt)?;
-    for i in 0..asked.len() {
-        query::<M, I, L>(house, eps, asked[i], near, steps)?;
-    }
-    Ok(start.elapsed(rt)?.as_nanos())
 }
 
 // Builds a store of 20,000 records and measures 1,000 more.
