@@ -21,7 +21,7 @@ struct Row {
     events: &'static [Told],
 }
 
-const ROWS: [Row; 15] = [
+const ROWS: [Row; 17] = [
     // A chain of five falls in two.
     Row {
         setting: Setting { eps: 1, minpts: 2 },
@@ -365,6 +365,71 @@ const ROWS: [Row; 15] = [
             (Kind::Absorbed, 1, 1),
             (Kind::Absorbed, 1, 1),
             (Kind::Reduced, 1, 1),
+        ],
+    },
+    // Two clusters lose their label, and are told by the one they had.
+    Row {
+        setting: Setting { eps: 2, minpts: 4 },
+        records: &[
+            (1, [3, 1]),
+            (2, [4, 0]),
+            (3, [5, 2]),
+            (4, [3, 2]),
+            (5, [1, 0]),
+            (6, [6, 0]),
+            (7, [1, 2]),
+            (8, [1, 0]),
+            (9, [5, 0]),
+        ],
+        gone: &[1],
+        events: &[
+            (Kind::Noise, 0, 1),
+            (Kind::Noise, 0, 2),
+            (Kind::Noise, 0, 3),
+            (Kind::Noise, 0, 4),
+            (Kind::Noise, 0, 5),
+            (Kind::Noise, 0, 6),
+            (Kind::Created, 0, 4),
+            (Kind::Absorbed, 4, 4),
+            (Kind::Created, 0, 2),
+            (Kind::Reduced, 2, 9),
+            (Kind::Reduced, 4, 7),
+        ],
+    },
+    // Of two clusters one falls in two, and one ends.
+    Row {
+        setting: Setting { eps: 2, minpts: 4 },
+        records: &[
+            (1, [3, 0]),
+            (2, [0, 0]),
+            (3, [7, 2]),
+            (4, [0, 1]),
+            (5, [5, 2]),
+            (6, [4, 0]),
+            (7, [6, 0]),
+            (8, [3, 2]),
+            (9, [2, 2]),
+            (10, [4, 0]),
+            (11, [7, 2]),
+            (12, [1, 1]),
+        ],
+        gone: &[9],
+        events: &[
+            (Kind::Noise, 0, 1),
+            (Kind::Noise, 0, 2),
+            (Kind::Noise, 0, 3),
+            (Kind::Noise, 0, 4),
+            (Kind::Noise, 0, 5),
+            (Kind::Noise, 0, 6),
+            (Kind::Noise, 0, 7),
+            (Kind::Noise, 0, 8),
+            (Kind::Created, 0, 8),
+            (Kind::Absorbed, 8, 1),
+            (Kind::Absorbed, 1, 1),
+            (Kind::Created, 0, 12),
+            (Kind::Split, 1, 1),
+            (Kind::Split, 1, 5),
+            (Kind::Removed, 12, 0),
         ],
     },
 ];

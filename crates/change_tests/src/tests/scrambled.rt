@@ -6,6 +6,7 @@ ghost use Rattle.std.specs.FinMap.Entries.{is_sorted};
 ghost use lib.Dec.{T};
 ghost use Rattle.update_seed.specs.Books.{Fits};
 
+use crate::tests::draws::Draws;
 use crate::tests::house::{
     House, Plain, Setting, add, empty_house, is_plain, nothing_plain, take_out,
 };
@@ -16,23 +17,6 @@ use std::marker::Brand;
 use std::sync::ledger::{Blank, Ledger};
 use std::test::Fail;
 use vec_record::{Metric, Number, Steps};
-
-/// Numbers that look drawn, each made of the one before.
-#[derive(Drop)]
-struct Draws {
-    last: u32,
-}
-
-impl Draws {
-    /// The next number, below `limit`.
-    fn below(&mut self, limit: u32) -> u32
-        requires { 0 < limit }
-        ensures { result < limit }
-    {
-        self.last = self.last.wrapping_mul(1664525).wrapping_add(1013904223);
-        (self.last >> 8) % limit
-    }
-}
 
 /// Takes the record of a number out, or adds one at the point, where there is none. Whether plain
 /// clustering says the same then.

@@ -1,0 +1,6 @@
+use Rattle.mtree_index.specs.Tree.{contents}
+use Rattle.update_seed.specs.Books.{Fits}
+use Rattle.change_tests.proofs.tests.groups.grows.Given as goal
+
+abbrev pub invariant-loop-record : goal.invariant-loop-record
+invariant-loop-record g l = Fits l.house.index.width (contents l.house.index) l.house.records l.house.counts l.house.labels
