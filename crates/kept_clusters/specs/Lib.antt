@@ -1,0 +1,4 @@
+pub mod Kept
+pub mod Paid
+pub mod Asked
+pub mod inside
