@@ -4,7 +4,7 @@ use Rattle.vec_record.specs.Held.{Held, Rows}
 use Rattle.vec_record.specs.declared.change.Change.{Change}
 use Rattle.vec_record.specs.declared.event.Event.{Event}
 use Rattle.vec_record.specs.declared.kind.MetricKind.{MetricKind}
-use Rattle.plain_dbscan.specs.declared.marks.Mark.{Mark}
+use Rattle.kept_clusters.specs.Kept.{Kept}
 use Rattle.site_disk.specs.State.{SiteState}
 use Rattle.page_gate.specs.Gate.{opening, Opens}
 use Rattle.page_layout.specs.Heads.{Values, plain}
@@ -16,8 +16,8 @@ use Rattle.store_image.specs.Placing.{AreAt, saved_pages}
 use Rattle.store_image.specs.Stores.{IsStore, LoadsAreStores}
 use Rattle.warehouse_core.specs.declared.refusal.Refusal.{Refusal}
 use Rattle.warehouse_core.specs.Applying.{Accepts, IsAfter, IsBefore, Steps, due, pages_after, pages_from}
-use Rattle.warehouse_core.specs.Batches.{events_of, marks_on, rows_after}
-use Rattle.warehouse_core.specs.Inside.{CanHold, Saves, Stands, state_of}
+use Rattle.warehouse_core.specs.Batches.{events_of, rows_after}
+use Rattle.warehouse_core.specs.Inside.{CanHold, Saves, StandBy, Stands, state_of}
 use Rattle.warehouse_core.specs.Receipts.{batch_text, decline_text, growth_text, is_deletion, is_insertion, receipt_text}
 use Rattle.warehouse_core.specs.States.{State}
 use Rattle.warehouse_core.proofs.Moments.{opened_before, weaker}
@@ -33,8 +33,8 @@ module _ (changes : List Change) (was is : Loaded) (before after : List (List �
       pages_are
       ∙ (ap (saved_pages (length (drop 1 before)) (plain was.head) was.places) (sym vectors_are) ∙ ap (λ (r : Result Image StoreFault). pages_from (length (drop 1 before)) r is.records.vectors) (sym loaded))
 
-  module _ (failed : Bool) (text more : List ℕ) (receipt : more ≡ text ++ receipt_text (was.head.batches + 1) changes (events_of (plain was.head).values was.records.vectors changes)) where
-    taken : (body : List ℕ) → due (state_of was before true failed) body ≡ Ok changes → Accepts body (state_of was before true failed) (state_of is after true false) text more
+  module _ (k k' : Kept) (failed : Bool) (text more : List ℕ) (receipt : more ≡ text ++ receipt_text (was.head.batches + 1) changes (events_of (plain was.head).values was.records.vectors changes)) where
+    taken : (body : List ℕ) → due (state_of was before true failed k) body ≡ Ok changes → Accepts body (state_of was before true failed k) (state_of is after true false k') text more
     taken body accepted = record {
       changes = changes;
       accepted = accepted;
@@ -48,25 +48,27 @@ module _ (changes : List Change) (was is : Loaded) (before after : List (List �
       loads = record { image = image_of is; loads = loads; values_are = refl; rows_are = refl; batches_are = refl };
     }
 
-    pub accepts : (stored : Bool) (w : State) (body : List ℕ) → state_of was before stored failed ≡ w → w.stored ≡ true → due w body ≡ Ok changes → Accepts body w (state_of is after stored false) text more
+    pub accepts : (stored : Bool) (w : State) (body : List ℕ) → state_of was before stored failed k ≡ w → w.stored ≡ true → due w body ≡ Ok changes → Accepts body w (state_of is after stored false k') text more
     accepts stored w body view has accepted =
         let s : stored ≡ true = ap (λ (x : State). x.stored) view ∙ has in
-        let P : State → Type 0 = λ x. due x body ≡ Ok changes → Accepts body x (state_of is after true false) text more in
-        let whole : state_of was before true failed ≡ w = ap (λ (b : Bool). state_of was before b failed) (sym s) ∙ view in
-        let Q : Bool → Type 0 = λ b. Accepts body w (state_of is after b false) text more in
+        let P : State → Type 0 = λ x. due x body ≡ Ok changes → Accepts body x (state_of is after true false k') text more in
+        let whole : state_of was before true failed k ≡ w = ap (λ (b : Bool). state_of was before b failed k) (sym s) ∙ view in
+        let Q : Bool → Type 0 = λ b. Accepts body w (state_of is after b false k') text more in
         subst Q (sym s) (subst P whole (taken body) accepted)
 
   -- it stands again
-  pub stands_again : (kind : MetricKind) (marks : List (ℕ × Mark)) → (plain was.head).values.metric ≡ kind → AreAt (plain is.head) is.places after → CanHold (plain was.head).values records → marks ≡ marks_on (plain was.head).values records.vectors → Stands kind is after marks
-  stands_again kind marks kind_is here holds marks_are =
+  pub stands_again : (dist : List ℕ → List ℕ → ℕ) (kind : MetricKind) (k : Kept) → (plain was.head).values.metric ≡ kind → AreAt (plain is.head) is.places after → CanHold (plain was.head).values records → StandBy dist (plain was.head).values records k → Stands dist kind is after k
+  stands_again dist kind k kind_is here holds clusters =
       let P : Values → Type 0 = λ v. CanHold v is.records in
       let Q : Held → Type 0 = λ h. CanHold (plain was.head).values h in
+      let R : Values → Type 0 = λ v. StandBy dist v is.records k in
+      let S : Held → Type 0 = λ h. StandBy dist (plain was.head).values h k in
       record {
         at = here;
         loads = loads;
         kind_is = ap (λ (v : Values). v.metric) values_are ∙ kind_is;
         holds = subst P (sym values_are) (subst Q (sym records_are) holds);
-        marks_are = marks_are ∙ (ap (marks_on (plain was.head).values) (sym vectors_are) ∙ ap (λ (v : Values). marks_on v is.records.vectors) (sym values_are));
+        clusters = subst R (sym values_are) (subst S (sym records_are) clusters);
       }
 
 -- the receipt of a batch, by its counts
@@ -79,15 +81,15 @@ counted_receipt batch insertions deletions changes events due_events line is ins
     ∙ ap (receipt_text batch changes) evs))
 
 -- the moments of a saving
-module _ (law : LoadsAreStores) (kind : MetricKind) (was : Loaded) (before : List (List ℕ)) (marks : List (ℕ × Mark)) (standing : Stands kind was before marks) (changes : List Change) (rows : Rows)
+module _ (law : LoadsAreStores) (dist : List ℕ → List ℕ → ℕ) (kind : MetricKind) (was : Loaded) (before : List (List ℕ)) (k : Kept) (standing : Stands dist kind was before k) (changes : List Change) (rows : Rows)
     (rows_are : rows ≡ rows_after (plain was.head).values was.records.vectors changes) where
   module _ (after : List (List ℕ)) (result : Result Unit Refusal) (a b : SiteState) (saves : Saves before (plain was.head).values rows (was.head.batches + 1) after result a b) where
-    crossed : (stored failed : Bool) (body : List ℕ) → due (state_of was before stored failed) body ≡ Ok changes → Steps body result (state_of was before stored failed) a b
+    crossed : (stored failed : Bool) (body : List ℕ) → due (state_of was before stored failed k) body ≡ Ok changes → Steps body result (state_of was before stored failed k) a b
     crossed stored failed body accepted =
-        let w = state_of was before stored failed in
+        let w = state_of was before stored failed k in
         let R : Rows → Type 0 = λ r. (c : List ℕ) → IsStore (plain was.head).values r (was.head.batches + 1) c → IsAfter body w c in
         let later : R rows = subst R (sym rows_are) (λ c store. record { changes = changes; accepted = accepted; store = store }) in
-        let sooner : (c : List ℕ) → opening c ≡ Opens before → IsBefore w c = λ c opens. opened_before law kind was before marks standing stored failed w c refl opens in
+        let sooner : (c : List ℕ) → opening c ≡ Opens before → IsBefore w c = λ c opens. opened_before law dist kind was before k standing stored failed w c refl opens in
         let either : (c : List ℕ) → (opening c ≡ Opens before) ⊎ IsStore (plain was.head).values rows (was.head.batches + 1) c → IsBefore w c ⊎ IsAfter body w c = λ c e. elim e [ inl x ↦ inl (sooner c x) | inr y ↦ inr (later c y) ] in
         record {
           safe = weaker a b (λ s c. (s ≡ a.said) × ((opening c ≡ Opens before) ⊎ IsStore (plain was.head).values rows (was.head.batches + 1) c)) (λ s c. (s ≡ a.said) × (IsBefore w c ⊎ IsAfter body w c)) saves.safe (λ s c m. (m.0, either c m.1));
@@ -95,7 +97,7 @@ module _ (law : LoadsAreStores) (kind : MetricKind) (was : Loaded) (before : Lis
           unsaved = λ want. weaker a b (λ s c. (s ≡ a.said) × (opening c ≡ Opens before)) (λ s c. (s ≡ a.said) × IsBefore w c) (saves.unsaved want) (λ s c m. (m.0, sooner c m.1));
         }
 
-    pub saved_steps : (stored failed : Bool) (w : State) (body : List ℕ) → state_of was before stored failed ≡ w → due w body ≡ Ok changes → Steps body result w a b
+    pub saved_steps : (stored failed : Bool) (w : State) (body : List ℕ) → state_of was before stored failed k ≡ w → due w body ≡ Ok changes → Steps body result w a b
     saved_steps stored failed w body view accepted =
         let P : State → Type 0 = λ x. due x body ≡ Ok changes → Steps body result x a b in
         subst P view (crossed stored failed body) accepted

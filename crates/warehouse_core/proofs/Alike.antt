@@ -1,6 +1,6 @@
 -- The marks of records depend on the distances of their vectors alone.
-use Rattle.std.proofs.Common.{◌≡◌, ℕ, ◌≤◌, true, false, cond, ◌&&◌, nat_le, List, [], ◌∷◌, length, find, filter, map, Option, Some, None, refl, ap, subst, ◌∙◌, arith}
-use Rattle.std.specs.List.{AllByRecursion}
+use Rattle.std.proofs.Common.{◌≡◌, ℕ, ◌≤◌, true, false, cond, not, ◌&&◌, ◌||◌, ◌==◌, nat_le, List, [], ◌∷◌, length, find, filter, map, Option, Some, None, refl, ap, subst, ◌∙◌, arith}
+use Rattle.std.specs.List.{AllByRecursion, list_any}
 use Rattle.std.specs.Option.{is_some}
 use Rattle.std.specs.Ordering.{nat_cmp, eq_by_cmp}
 use Rattle.std.specs.FinMap.Entries.{find as value_at}
@@ -15,6 +15,7 @@ use Rattle.vec_record.specs.declared.kind.MetricKind.TheVariants.{L1, Max, Hammi
 use Rattle.plain_dbscan.specs.declared.marks.Mark.TheVariants.{Core, Border}
 use Rattle.plain_dbscan.specs.Chains.{label_of}
 use Rattle.plain_dbscan.specs.Marks.{Density, density, Entries, numbers_of, within, is_near, is_core, near_of, cluster_of, anchor_of, outer_mark, mark_of, marks_of}
+use Rattle.plain_dbscan.specs.Asked.{asked_of_insertion, asked_of_deletion, is_lost_anchor}
 use Rattle.page_layout.specs.Heads.{Values}
 use Rattle.store_image.specs.Placing.{CanStand}
 use Rattle.warehouse_core.specs.Batches.{density_by}
@@ -73,6 +74,41 @@ module _ (v : Values) (es : Entries) (dist : List ℕ → List ℕ → ℕ) (all
   pub marks_by : marks_of (density dist v.eps v.minpts) es ≡ marks_of (density_by v) es
   marks_by = marks_alike (density dist v.eps v.minpts) (density_by v) es is_near_by refl
 
+  pub mark_by : (a : ℕ) → mark_of (density dist v.eps v.minpts) es a ≡ mark_of (density_by v) es a
+  mark_by = mark_alike (density dist v.eps v.minpts) (density_by v) es is_near_by refl
+
+-- what changes ask about, by two distances that agree on the vectors before and after
+lost_alike : (d e : Density) (after : Entries) → is_core d after ≡ is_core e after → (o : Option ℕ) → is_lost_anchor d after o ≡ is_lost_anchor e after o
+lost_alike d e after cores None = refl
+lost_alike d e after cores (Some b) = λ i. not (cores i b)
+
+module _ (v : Values) (dist : List ℕ → List ℕ → ℕ) (before after : Entries) (all : AllByRecursion (CanStand v) before) (all' : AllByRecursion (CanStand v) after)
+    (law : (a b : List ℕ) → IsVector (width_of v.metric v.dim) a → IsVector (width_of v.metric v.dim) b → dist a b ≡ distance_of v.metric a b) where
+  abbrev d : Density
+  d = density dist v.eps v.minpts
+
+  cores_before : is_core d before ≡ is_core (density_by v) before
+  cores_before = cores_alike d (density_by v) before (is_near_by v before dist all law) refl
+
+  cores_after : is_core d after ≡ is_core (density_by v) after
+  cores_after = cores_alike d (density_by v) after (is_near_by v after dist all' law) refl
+
+  clusters_before : cluster_of d before ≡ cluster_of (density_by v) before
+  clusters_before = clusters_alike d (density_by v) before (is_near_by v before dist all law) refl
+
+  lost_before : (a : ℕ) → is_lost_anchor d after (anchor_of d before a) ≡ is_lost_anchor (density_by v) after (anchor_of (density_by v) before a)
+  lost_before a =
+      ap (is_lost_anchor d after) (anchors_alike d (density_by v) before (is_near_by v before dist all law) refl a)
+      ∙ lost_alike d (density_by v) after cores_after (anchor_of (density_by v) before a)
+
+  pub insertion_asked : (p : ℕ) → asked_of_insertion d before after p ≡ asked_of_insertion (density_by v) before after p
+  insertion_asked p i = filter (λ a. (a == p) || (cores_after i a && not (cores_before i a))) (numbers_of after)
+
+  pub deletion_asked : (p : ℕ) → asked_of_deletion d before after p ≡ asked_of_deletion (density_by v) before after p
+  deletion_asked p i =
+      filter (λ a. (a == p) || ((cores_before i a && not (cores_after i a)) || (lost_before a i || (cores_after i a
+      && list_any (λ b. clusters_before i a == clusters_before i b) (filter (λ x. cores_before i x && not (cores_after i x)) (numbers_of before)))))) (numbers_of before)
+
 -- the width of lawful parameters
 dim_within : (m : MetricKind) (dim eps minpts cap : ℕ) → are_within m dim eps minpts cap ≡ true → (1 ≤ dim) × (dim ≤ greatest_dim m)
 dim_within m dim eps minpts cap e =
@@ -84,3 +120,11 @@ pub lawful_width : (m : MetricKind) (dim eps minpts cap : ℕ) → are_within m 
 lawful_width L1 dim eps minpts cap e = let b = dim_within L1 dim eps minpts cap e in record { some = omega (arith, b.0); small = omega (arith, b.1) }
 lawful_width Max dim eps minpts cap e = let b = dim_within Max dim eps minpts cap e in record { some = omega (arith, b.0); small = omega (arith, b.1) }
 lawful_width Hamming dim eps minpts cap e = let b = dim_within Hamming dim eps minpts cap e in record { some = omega (arith, b.0); small = omega (arith, b.1) }
+
+-- the most records that lawful parameters allow
+pub cap_within : (m : MetricKind) (dim eps minpts cap : ℕ) → are_within m dim eps minpts cap ≡ true → cap ≤ 200000
+cap_within m dim eps minpts cap e =
+    let parts = and_parts (is_between 1 (greatest_dim m) dim) _ e in
+    let more = and_parts (is_between 0 65535 eps) _ parts.1 in
+    let last = and_parts (is_between 1 65535 minpts) (is_between 1 200000 cap) more.1 in
+    leb-true _ _ (and_parts (nat_le 1 cap) (nat_le cap 200000) last.1).1

@@ -1,5 +1,5 @@
 -- Changes that can apply, one after another, with the marks and the events.
-use Rattle.std.proofs.Common.{◌≡◌, ℕ, ◌+◌, ◌-◌, ◌≤◌, Bool, true, false, cond, ◌&&◌, nat_le, List, [], ◌∷◌, ◌++◌, Option, Some, None, Result, Ok, Err, IsOk, refl, sym, ap, subst, ◌∙◌, arith, append_assoc, append-nil}
+use Rattle.std.proofs.Common.{◌≡◌, ℕ, ◌+◌, ◌-◌, ◌<◌, ◌≤◌, Bool, true, false, cond, ◌&&◌, nat_le, List, [], ◌∷◌, ◌++◌, Option, Some, None, Result, Ok, Err, IsOk, refl, sym, ap, subst, ◌∙◌, arith, append_assoc, append-nil}
 use lib.Dec.{T}
 use Rattle.std.specs.List.{AllByRecursion}
 use Rattle.std.specs.Option.{is_some}
@@ -16,17 +16,19 @@ use Rattle.vec_record.specs.Limits.{width_of}
 use Rattle.vec_record.specs.declared.change.Change.{Change}
 use Rattle.vec_record.specs.declared.change.Change.TheVariants.{Insert, Delete}
 use Rattle.vec_record.specs.declared.event.Event.{Event}
-use Rattle.plain_dbscan.specs.declared.marks.Mark.{Mark}
 use Rattle.plain_dbscan.specs.Cases.{cases_of}
 use Rattle.page_layout.specs.Heads.{Values}
 use Rattle.store_image.specs.Placing.{CanStand}
-use Rattle.batch_text.specs.After.{CanApply, after, after_from, and_then, changed}
+use Rattle.batch_text.specs.After.{after, after_from, and_then, changed}
 use Rattle.batch_text.specs.Batch.{IsChangeOf, IsSpelledChange}
 use Rattle.batch_text.specs.declared.faults.CheckFault.{CheckFault}
 use Rattle.batch_text.specs.declared.faults.CheckFault.TheVariants.{Repeated, Unknown, Full}
-use Rattle.warehouse_core.specs.Batches.{events_of, marks_on, or_else, rows_after}
-use Rattle.plain_dbscan.specs.Marks.{Entries}
-use Rattle.warehouse_core.specs.Inside.{AreHeld, CanHold}
+use Rattle.kept_clusters.specs.Kept.{Kept}
+use Rattle.mtree_index.specs.Plain.{PlainTree}
+use Rattle.warehouse_core.specs.Batches.{density_by, events_of, marks_on, or_else, rows_after}
+use Rattle.warehouse_core.specs.Costs.{held_after, tree_after, tree_after_all, IsPaid, ArePaid, work_of, work_of_all}
+use Rattle.plain_dbscan.specs.Marks.{Density, density, Entries}
+use Rattle.warehouse_core.specs.Inside.{AreHeld, CanHold, CanFollow, StandBy}
 use Rattle.warehouse_core.proofs.Alike.{found_so, same_key}
 
 true_of : (b : Bool) → T b → b ≡ true
@@ -102,7 +104,7 @@ absent None e = refl
 absent (Some x) e = absurd (true≢false e)
 
 record Applies (place cap : ℕ) (rows : Rows) (c : Change) (cs : List Change) : Type 0 where
-  can : CanApply rows c
+  can : CanFollow cap rows c
   rest : after_from place cap rows (c ∷ cs) ≡ after_from (place + 1) cap (changed rows c) cs
   few : maps.len rows ≤ cap → maps.len (changed rows c) ≤ cap
 
@@ -112,9 +114,13 @@ insert_could true b e f m next h = absurd (false≢true h)
 insert_could false true e f m next h = absurd (false≢true h)
 insert_could false false e f m next h = (refl, refl, refl)
 
-delete_could : (a : Bool) (e : CheckFault) (m : Rows) (next : Rows → Result Rows CheckFault) → is_ok (and_then (cond a (Ok m) (Err e)) next) ≡ true → and_then (cond a (Ok m) (Err e)) next ≡ next m
-delete_could true e m next h = refl
+delete_could : (a : Bool) (e : CheckFault) (m : Rows) (next : Rows → Result Rows CheckFault) → is_ok (and_then (cond a (Ok m) (Err e)) next) ≡ true
+    → (a ≡ true) × (and_then (cond a (Ok m) (Err e)) next ≡ next m)
+delete_could true e m next h = (refl, refl)
 delete_could false e m next h = absurd (false≢true h)
+
+below_cap : (n cap : ℕ) → nat_le cap n ≡ false → n < cap
+below_cap n cap h = grind (arith, nat_tests)
 
 one_more_few : (b : Bool) (n cap new : ℕ) → new ≡ cond b n (n + 1) → nat_le cap n ≡ false → new ≤ cap
 one_more_few true n cap new is below = grind (arith, nat_tests)
@@ -128,56 +134,114 @@ applies : (place cap : ℕ) (rows : Rows) (c : Change) (cs : List Change) → Is
 applies place cap rows (Insert n v) cs h =
     let could = insert_could (maps.contains_key rows n) (nat_le cap (maps.len rows)) (Repeated place) (Full place) (maps.insert rows n v) (λ next. after_from (place + 1) cap next cs) h in
     record {
-      can = absent (maps.get rows n) could.0;
+      can = (absent (maps.get rows n) could.0, below_cap (maps.len rows) cap could.1);
       rest = could.2;
       few = λ le. one_more_few (maps.contains_key rows n) (maps.len rows) cap (maps.len (maps.insert rows n v)) (maps.len-insert nat_cmp_total rows n v) could.1;
     }
-applies place cap rows (Delete n) cs h = record {
-  can = tt;
-  rest = delete_could (maps.contains_key rows n) (Unknown place) (maps.remove rows n) (λ next. after_from (place + 1) cap next cs) h;
-  few = one_less_few (maps.contains_key rows n) (maps.len rows) cap (maps.len (maps.remove rows n)) (maps.len-remove nat_cmp_total rows n);
-}
+applies place cap rows (Delete n) cs h =
+    let could = delete_could (maps.contains_key rows n) (Unknown place) (maps.remove rows n) (λ next. after_from (place + 1) cap next cs) h in
+    record {
+      can = could.0;
+      rest = could.1;
+      few = one_less_few (maps.contains_key rows n) (maps.len rows) cap (maps.len (maps.remove rows n)) (maps.len-remove nat_cmp_total rows n);
+    }
 
--- The changes that are left apply to the records that stand now, and come to what all changes come to; the events so
--- far and theirs are those of all changes.
-pub record Goes (v : Values) (start : Rows) (all : List Change) (records : Held) (marks : List (ℕ × Mark)) (events : List Event) (cs : List Change) : Type 0 where
+-- The changes that are left apply to the records that stand now, and come to what all changes come to: the records, the
+-- events, the tree, and what they may cost.
+pub record Goes
+    (dist : List ℕ → List ℕ → ℕ) (most : ℕ → ℕ) (v : Values) (start : Held) (tree : PlainTree) (steps : ℕ) (all : List Change)
+    (records : Held) (k : Kept) (events : List Event) (now : ℕ) (cs : List Change) : Type 0 where
   pub holds : CanHold v records
-  pub marks_are : marks ≡ marks_on v records.vectors
+  pub clusters : StandBy dist v records k
   pub fit : AllByRecursion (IsChangeOf (width_of v.metric v.dim)) cs
   pub spelled : AllByRecursion (IsSpelledChange v.metric v.dim) cs
-  pub rest : (place : ℕ) × (after_from place v.cap records.vectors cs ≡ after v.cap start all)
-  pub events_are : events ++ events_of v records.vectors cs ≡ events_of v start all
+  pub rest : (place : ℕ) × (after_from place v.cap records.vectors cs ≡ after v.cap start.vectors all)
+  pub events_are : events ++ events_of v records.vectors cs ≡ events_of v start.vectors all
+  pub tree_is : tree_after_all dist most records cs k.tree ≡ tree_after_all dist most start all tree
+  pub paid : (reached : ℕ) → ArePaid most (density dist v.eps v.minpts) k.tree records cs now reached → ArePaid most (density dist v.eps v.minpts) tree start all steps reached
+  pub worked : now + work_of_all (density_by v) records cs ≤ steps + work_of_all (density_by v) start all
 
-pub begins : (v : Values) (start : Rows) (all : List Change) (records : Held) (marks : List (ℕ × Mark)) (events : List Event) (cs more : List Change) (c : Change) → cs ≡ c ∷ more → Goes v start all records marks events cs → Goes v start all records marks events (c ∷ more)
-begins v start all records marks events cs more c e h = let P : List Change → Type 0 = λ xs. Goes v start all records marks events xs in subst P e h
+-- changes that cost nothing are paid
+pub nothing_paid : (most : ℕ → ℕ) (d : Density) (tree : PlainTree) (records : Held) (cs : List Change) (steps : ℕ) → ArePaid most d tree records cs steps steps
+nothing_paid most d tree records [] steps = omega arith
+nothing_paid most d tree records (Insert n v ∷ cs) steps = (steps, (omega arith, nothing_paid most d (tree_after d.dist most records (Insert n v) tree) (held_after records (Insert n v)) cs steps))
+nothing_paid most d tree records (Delete n ∷ cs) steps = (steps, ((λ grown all. omega arith), nothing_paid most d (tree_after d.dist most records (Delete n) tree) (held_after records (Delete n)) cs steps))
 
-module _ (v : Values) (start : Rows) (all : List Change) (records : Held) (marks : List (ℕ × Mark)) (events : List Event) where
-  first_applies : (c : Change) (cs : List Change) → IsOk (after v.cap start all) → (goes : Goes v start all records marks events (c ∷ cs)) → Applies goes.rest.0 v.cap records.vectors c cs
-  first_applies c cs ok goes = applies goes.rest.0 v.cap records.vectors c cs (subst IsOk (sym goes.rest.1) ok)
+module _ (dist : List ℕ → List ℕ → ℕ) (most : ℕ → ℕ) (v : Values) (start : Held) (tree : PlainTree) (steps : ℕ) (all : List Change) where
+  pub begins : (records : Held) (k : Kept) (events : List Event) (now : ℕ) (cs more : List Change) (c : Change) → cs ≡ c ∷ more → Goes dist most v start tree steps all records k events now cs → Goes dist most v start tree steps all records k events now (c ∷ more)
+  begins records k events now cs more c e h = let P : List Change → Type 0 = λ xs. Goes dist most v start tree steps all records k events now xs in subst P e h
 
-  pub first_can : (c : Change) (cs : List Change) → IsOk (after v.cap start all) → Goes v start all records marks events (c ∷ cs) → CanApply records.vectors c
-  first_can c cs ok goes = (first_applies c cs ok goes).can
+  module _ (records : Held) (k : Kept) (events : List Event) (now : ℕ) (c : Change) (cs : List Change) (ok : IsOk (after v.cap start.vectors all))
+      (goes : Goes dist most v start tree steps all records k events now (c ∷ cs)) where
+    first_applies : Applies goes.rest.0 v.cap records.vectors c cs
+    first_applies = applies goes.rest.0 v.cap records.vectors c cs (subst IsOk (sym goes.rest.1) ok)
 
-  pub goes_further : (c : Change) (cs : List Change) (next : Held) (new : List (ℕ × Mark)) (more : List Event) → IsOk (after v.cap start all) → Goes v start all records marks events (c ∷ cs)
-      → next.vectors ≡ changed records.vectors c → AreHeld v next → new ≡ marks_on v next.vectors → more ≡ events ++ cases_of marks new → Goes v start all next new more cs
-  goes_further c cs next new more ok goes is held new_is more_is =
-      let step = first_applies c cs ok goes in
-      let few : maps.len next.vectors ≤ v.cap = subst (λ (rows : Rows). maps.len rows ≤ v.cap) (sym is) (step.few goes.holds.few) in
-      let own : cases_of marks new ≡ cases_of (marks_on v records.vectors) (marks_on v (changed records.vectors c)) =
-      ap (λ (m : List (ℕ × Mark)). cases_of m new) goes.marks_are ∙ ap (cases_of (marks_on v records.vectors)) (new_is ∙ ap (marks_on v) is) in
-      let rest : events_of v next.vectors cs ≡ events_of v (changed records.vectors c) cs = ap (λ (rows : Rows). events_of v rows cs) is in
-      record {
+    pub first_can : CanFollow v.cap records.vectors c
+    first_can = first_applies.can
+
+    -- after one change more it may have come to this count, and no further
+    pub stopped_paid : (next : ℕ) → IsPaid most (density dist v.eps v.minpts) k.tree records c now next → ArePaid most (density dist v.eps v.minpts) tree start all steps next
+    stopped_paid next paid = goes.paid next (next, (paid, nothing_paid most (density dist v.eps v.minpts) _ _ cs next))
+
+    pub stopped_worked : (next : ℕ) → next ≤ now + work_of (density_by v) records c → next ≤ steps + work_of_all (density_by v) start all
+    stopped_worked next work = omega (arith, work, goes.worked)
+
+    module _ (next : Held) (k' : Kept) (more : List Event) (reached : ℕ) (is : next ≡ held_after records c) (held : AreHeld v next) (clusters : StandBy dist v next k')
+        (tree_is : k'.tree ≡ tree_after dist most records c k.tree)
+        (told : more ≡ events ++ cases_of (marks_on v records.vectors) (marks_on v next.vectors))
+        (paid : IsPaid most (density dist v.eps v.minpts) k.tree records c now reached) (work : reached ≤ now + work_of (density_by v) records c) where
+      rows_are : next.vectors ≡ changed records.vectors c
+      rows_are = ap (λ (h : Held). h.vectors) is
+
+      few : maps.len next.vectors ≤ v.cap
+      few = subst (λ (rows : Rows). maps.len rows ≤ v.cap) (sym rows_are) (first_applies.few goes.holds.few)
+
+      events_now : more ++ events_of v next.vectors cs ≡ events_of v start.vectors all
+      events_now =
+          ap (λ (es : List Event). es ++ events_of v next.vectors cs) told
+          ∙ ap (λ (rows : Rows). (events ++ cases_of (marks_on v records.vectors) (marks_on v rows)) ++ events_of v rows cs) rows_are
+          ∙ append_assoc events (cases_of (marks_on v records.vectors) (marks_on v (changed records.vectors c))) (events_of v (changed records.vectors c) cs)
+          ∙ goes.events_are
+
+      paid_now : (last : ℕ) → ArePaid most (density dist v.eps v.minpts) k'.tree next cs reached last → ArePaid most (density dist v.eps v.minpts) tree start all steps last
+      paid_now last rest =
+          let P : PlainTree → Held → Type 0 = λ t h. ArePaid most (density dist v.eps v.minpts) t h cs reached last in
+          let moved : P (tree_after dist most records c k.tree) (held_after records c) = subst (λ (h : Held). P (tree_after dist most records c k.tree) h) is (subst (λ (t : PlainTree). P t next) tree_is rest) in
+          goes.paid last (reached, (paid, moved))
+
+      worked_now : reached + work_of_all (density_by v) next cs ≤ steps + work_of_all (density_by v) start all
+      worked_now =
+          let same : work_of_all (density_by v) next cs ≡ work_of_all (density_by v) (held_after records c) cs = ap (λ (h : Held). work_of_all (density_by v) h cs) is in
+          omega (arith, work, goes.worked, same)
+
+      pub goes_further : Goes dist most v start tree steps all next k' more reached cs
+      goes_further = record {
         holds = record { held = held; few = few };
-        marks_are = new_is;
+        clusters = clusters;
         fit = goes.fit.1;
         spelled = goes.spelled.1;
-        rest = (goes.rest.0 + 1, ap (λ (rows : Rows). after_from (goes.rest.0 + 1) v.cap rows cs) is ∙ (sym step.rest ∙ goes.rest.1));
-        events_are =
-            ap (λ (es : List Event). es ++ events_of v next.vectors cs) (more_is ∙ ap (λ (es : List Event). events ++ es) own)
-            ∙ ap (λ (es : List Event). (events ++ cases_of (marks_on v records.vectors) (marks_on v (changed records.vectors c))) ++ es) rest
-            ∙ append_assoc events (cases_of (marks_on v records.vectors) (marks_on v (changed records.vectors c))) (events_of v (changed records.vectors c) cs)
-            ∙ goes.events_are;
+        rest = (goes.rest.0 + 1, ap (λ (rows : Rows). after_from (goes.rest.0 + 1) v.cap rows cs) rows_are ∙ (sym first_applies.rest ∙ goes.rest.1));
+        events_are = events_now;
+        tree_is =
+            ap (λ (t : PlainTree). tree_after_all dist most next cs t) tree_is
+            ∙ ap (λ (h : Held). tree_after_all dist most h cs (tree_after dist most records c k.tree)) is
+            ∙ goes.tree_is;
+        paid = paid_now;
+        worked = worked_now;
       }
 
-  pub goes_last : Goes v start all records marks events [] → (records.vectors ≡ rows_after v start all) × (events ≡ events_of v start all)
-  goes_last goes = (ap (or_else start) goes.rest.1, sym (append-nil events) ∙ goes.events_are)
+  pub record Ends (records : Held) (k : Kept) (events : List Event) (now : ℕ) : Type 0 where
+    pub rows : records.vectors ≡ rows_after v start.vectors all
+    pub events_are : events ≡ events_of v start.vectors all
+    pub tree_is : k.tree ≡ tree_after_all dist most start all tree
+    pub paid : ArePaid most (density dist v.eps v.minpts) tree start all steps now
+    pub worked : now ≤ steps + work_of_all (density_by v) start all
+
+  pub goes_last : (records : Held) (k : Kept) (events : List Event) (now : ℕ) → Goes dist most v start tree steps all records k events now [] → Ends records k events now
+  goes_last records k events now goes = record {
+    rows = ap (or_else start.vectors) goes.rest.1;
+    events_are = sym (append-nil events) ∙ goes.events_are;
+    tree_is = goes.tree_is;
+    paid = goes.paid now (omega arith);
+    worked = omega (arith, goes.worked);
+  }

@@ -5,4 +5,5 @@ pub mod Alike
 pub mod Applied
 pub mod Accepted
 pub mod Numbered
-pub mod Walks
+pub mod Spent
+pub mod Changed

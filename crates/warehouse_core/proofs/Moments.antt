@@ -3,7 +3,7 @@ use Rattle.std.proofs.Common.{◌≡◌, ◌⊎◌, inl, inr, ℕ, Bool, false, 
 use Rattle.vec_record.specs.Held.{Rows}
 use Rattle.page_layout.specs.Heads.{Values}
 use Rattle.vec_record.specs.declared.kind.MetricKind.{MetricKind}
-use Rattle.plain_dbscan.specs.declared.marks.Mark.{Mark}
+use Rattle.kept_clusters.specs.Kept.{Kept}
 use Rattle.site_disk.specs.State.{SiteState, IsNow, Safe}
 use Rattle.site_disk.proofs.Moments.{start}
 use Rattle.page_gate.specs.Gate.{opening, Opens}
@@ -23,22 +23,22 @@ use Rattle.warehouse_core.specs.Inside.{Saves, Stands, state_of}
 use Rattle.warehouse_core.specs.Applying.{IsBefore, Steps}
 
 -- a warehouse that hasn't failed stands
-pub stands : (kind : MetricKind) (s : Loaded) (pages : List (List ℕ)) (marks : List (ℕ × Mark)) (stored failed : Bool) (w : State) → (failed ≡ false → Stands kind s pages marks) → state_of s pages stored failed ≡ w → w.failed ≡ false → Stands kind s pages marks
-stands kind s pages marks stored failed w whole view not_failed = whole (ap (λ (x : State). x.failed) view ∙ not_failed)
+pub stands : (dist : List ℕ → List ℕ → ℕ) (kind : MetricKind) (s : Loaded) (pages : List (List ℕ)) (k : Kept) (stored failed : Bool) (w : State) → (failed ≡ false → Stands dist kind s pages k) → state_of s pages stored failed k ≡ w → w.failed ≡ false → Stands dist kind s pages k
+stands dist kind s pages k stored failed w whole view not_failed = whole (ap (λ (x : State). x.failed) view ∙ not_failed)
 
-module _ (law : LoadsAreStores) (kind : MetricKind) (s : Loaded) (pages : List (List ℕ)) (marks : List (ℕ × Mark)) (standing : Stands kind s pages marks) where
-  opened : (stored failed : Bool) (c : List ℕ) → opening c ≡ Opens pages → IsBefore (state_of s pages stored failed) c
+module _ (law : LoadsAreStores) (dist : List ℕ → List ℕ → ℕ) (kind : MetricKind) (s : Loaded) (pages : List (List ℕ)) (k : Kept) (standing : Stands dist kind s pages k) where
+  opened : (stored failed : Bool) (c : List ℕ) → opening c ≡ Opens pages → IsBefore (state_of s pages stored failed k) c
   opened stored failed c opens = law c pages (image_of s) opens standing.loads
 
   -- a content with its pages is the store as it is
-  pub opened_before : (stored failed : Bool) (w : State) (c : List ℕ) → state_of s pages stored failed ≡ w → opening c ≡ Opens pages → IsBefore w c
+  pub opened_before : (stored failed : Bool) (w : State) (c : List ℕ) → state_of s pages stored failed k ≡ w → opening c ≡ Opens pages → IsBefore w c
   opened_before stored failed w c view opens = let P : State → Type 0 = λ x. IsBefore x c in subst P view (opened stored failed c opens)
 
-  held_pages : (stored failed : Bool) (w : State) (a : SiteState) (c : List ℕ) → state_of s pages stored failed ≡ w → Holds w.pages a → a.may_leave c → opening c ≡ Opens pages
+  held_pages : (stored failed : Bool) (w : State) (a : SiteState) (c : List ℕ) → state_of s pages stored failed k ≡ w → Holds w.pages a → a.may_leave c → opening c ≡ Opens pages
   held_pages stored failed w a c view holds may = ap opening (holds.only c may) ∙ holds.list ∙ ap (λ (x : State). Opens x.pages) (sym view)
 
   -- nothing was written
-  pub unwritten : (body : List ℕ) (result : Result Unit Refusal) (stored failed : Bool) (w : State) (a : SiteState) → state_of s pages stored failed ≡ w → Holds w.pages a → IsNow a → Steps body result w a a
+  pub unwritten : (body : List ℕ) (result : Result Unit Refusal) (stored failed : Bool) (w : State) (a : SiteState) → state_of s pages stored failed k ≡ w → Holds w.pages a → IsNow a → Steps body result w a a
   unwritten body result stored failed w a view holds now =
       let before : (c : List ℕ) → a.may_leave c → IsBefore w c = λ c may. opened_before stored failed w c view (held_pages stored failed w a c view holds may) in
       record {

@@ -1,10 +1,12 @@
 -- For the inside of a warehouse alone: what its fields are seen as, and what holds of them until it has failed.
-use Rattle.std.specs.Prelude.{◌≡◌, ◌⊎◌, ◌≤◌, ℕ, Bool, List, Result, Ok, Err, OnOk}
+use Rattle.std.specs.Prelude.{◌≡◌, ◌⊎◌, ◌<◌, ◌≤◌, ℕ, Bool, List, None, IsSome, Result, Ok, Err, OnOk}
 use Rattle.std.specs.List.{AllByRecursion}
 use Rattle.std.specs.FinMap as map
 use Rattle.vec_record.specs.Limits.{width_of}
 use Rattle.vec_record.specs.declared.kind.MetricKind.{MetricKind}
-use Rattle.plain_dbscan.specs.declared.marks.Mark.{Mark}
+use Rattle.vec_record.specs.declared.change.Change.{Change}
+use Rattle.vec_record.specs.declared.change.Change.TheVariants.{Insert, Delete}
+use Rattle.kept_clusters.specs.Kept.{Kept, Stand}
 use Rattle.page_layout.specs.Heads.{Values, plain}
 use Rattle.store_image.specs.declared.loaded.Loaded.{Loaded}
 use Rattle.store_image.specs.Images.{image_of}
@@ -17,18 +19,18 @@ use Rattle.page_gate.specs.Promises.{Holds}
 use Rattle.store_image.specs.Stores.{IsStore}
 use Rattle.warehouse_core.specs.declared.refusal.Refusal.{Refusal}
 use Rattle.warehouse_core.specs.declared.refusal.Refusal.TheVariants.{Memory}
-use Rattle.warehouse_core.specs.Batches.{marks_on}
 use Rattle.warehouse_core.specs.States.{State}
 
--- a warehouse with this store in memory and these pages
-abbrev pub state_of : Loaded → List (List ℕ) → Bool → Bool → State
-state_of s pages stored failed = record {
+-- a warehouse with this store in memory, these pages and these clusters
+abbrev pub state_of : Loaded → List (List ℕ) → Bool → Bool → Kept → State
+state_of s pages stored failed k = record {
   values = (plain s.head).values;
   pages = pages;
   rows = s.records.vectors;
   batches = s.head.batches;
   stored = stored;
   failed = failed;
+  tree = k.tree;
 }
 
 -- records whose numbers and vectors a store with these parameters can hold
@@ -41,13 +43,26 @@ pub record CanHold (v : Values) (records : held.Held) : Type 0 where
   pub held : AreHeld v records
   pub few : map.len records.vectors ≤ v.cap
 
--- the pages are those of the store, the marks those of the records, and the metric is that of the parameters
-pub record Stands (kind : MetricKind) (s : Loaded) (pages : List (List ℕ)) (marks : List (ℕ × Mark)) : Type 0 where
+-- clusters by the parameters, which stand for the records
+pub record StandBy (dist : List ℕ → List ℕ → ℕ) (v : Values) (records : held.Held) (k : Kept) : Type 0 where
+  pub eps : k.eps ≡ v.eps
+  pub minpts : k.counts.minpts ≡ v.minpts
+  pub stand : Stand dist records k
+
+-- a change that can apply: an absent number and room for one more, or a number that is there
+abbrev pub CanFollow : ℕ → held.Rows → Change → Type 0
+CanFollow cap rows (Insert n v) = (map.get rows n ≡ None) × (map.len rows < cap)
+CanFollow cap rows (Delete n) = IsSome (map.get rows n)
+
+-- the pages are those of the store, the metric is that of the parameters, and the clusters stand for the records
+pub record Stands
+    (dist : List ℕ → List ℕ → ℕ) (kind : MetricKind) (s : Loaded) (pages : List (List ℕ))
+    (k : Kept) : Type 0 where
   pub at : AreAt (plain s.head) s.places pages
   pub loads : load_of pages ≡ Ok (image_of s)
   pub kind_is : (plain s.head).values.metric ≡ kind
   pub holds : CanHold (plain s.head).values s.records
-  pub marks_are : marks ≡ marks_on (plain s.head).values s.records.vectors
+  pub clusters : StandBy dist (plain s.head).values s.records k
 
 -- Nothing is said, and each image, at each moment, has the old pages or is a store with what is saved; want of memory
 -- comes before the first write, and after Ok the only image has the new pages.

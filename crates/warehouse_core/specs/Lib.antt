@@ -3,4 +3,5 @@ pub mod Receipts
 pub mod States
 pub mod Applying
 pub mod Queries
+pub mod Costs
 pub mod Inside

@@ -1,63 +1,71 @@
-//! Changes that are accepted, applied one by one, each with its events.
-ghost use Rattle.std.specs.Prelude.{◌≡◌, ◌≤◌, ◌++◌, IsOk, IfOk, OnOk};
+//! Changes that are accepted, applied one by one to records and clusters, each with its events.
+ghost use Rattle.std.specs.Prelude.{◌≡◌, ◌≤◌, ◌+◌, ◌++◌, IsOk, IfOk, OnOk};
 ghost use Rattle.std.specs.List.{AllByRecursion};
-ghost use Rattle.std.specs.FinMap as map;
 ghost use Rattle.vec_record.specs.Limits.{width_of};
+ghost use Rattle.plain_dbscan.specs.Marks.{density};
 ghost use Rattle.plain_dbscan.specs.Cases.{cases_of};
 ghost use Rattle.page_layout.specs.Heads.{values_of};
-ghost use Rattle.batch_text.specs.After.{CanApply, after, changed};
+ghost use Rattle.batch_text.specs.After.{after};
 ghost use Rattle.batch_text.specs.Batch.{IsChangeOf, IsSpelledChange};
-ghost use Rattle.warehouse_core.specs.Batches.{events_of, marks_on, rows_after};
-ghost use Rattle.warehouse_core.specs.Inside.{AreHeld, CanHold};
+ghost use Rattle.warehouse_core.specs.Batches.{density_by, events_of, marks_on, rows_after};
+ghost use Rattle.warehouse_core.specs.Costs.{held_after, tree_after, tree_after_all};
+ghost use Rattle.warehouse_core.specs.Costs.{IsPaid, ArePaid, work_of, work_of_all};
+ghost use Rattle.warehouse_core.specs.Inside.{AreHeld, CanHold, CanFollow, StandBy};
 
-use crate::clustering::cluster;
-use batch_text::apply_change;
-use plain_dbscan::{Marks, cases_plain};
+use kept_clusters::Clusters;
 use std::alloc::{AllocError, Global};
 use std::sync::ledger::Ledger;
 use vec_record::{Change, Changes, Events, Metric, Params, Records, Steps};
 
-/// Applies one change, makes the marks anew, and appends the events.
+/// Applies one change to the records and to the clusters, and appends the events. What it may cost
+/// it costs after want of memory too.
 fn apply_one<M: Metric, L: Ledger>(
-    alloc: Global,
     params: &Params,
     records: &mut Records,
-    marks: &mut Marks,
+    clusters: &mut Clusters<M>,
     events: &mut Events,
     change: Change,
     steps: &mut Steps<L>,
 ) -> Result<(), AllocError>
     requires kind { params.now.metric ≡ M.KIND }
     requires held { AreHeld (values_of params.now) records.old }
-    requires marks { marks.old ≡ marks_on (values_of params.now) records.old.vectors }
+    requires clusters { StandBy M.dist (values_of params.now) records.old clusters.old }
     requires fits { IsChangeOf (width_of params.now.metric params.now.dim) change }
     requires spelled { IsSpelledChange params.now.metric params.now.dim change }
-    requires can { CanApply records.old.vectors change }
-    ensures records { OnOk result (records.new.vectors ≡ changed records.old.vectors change) }
+    requires can { CanFollow params.now.cap records.old.vectors change }
+    ensures records { OnOk result (records.new ≡ held_after records.old change) }
     ensures held { OnOk result (AreHeld (values_of params.now) records.new) }
-    ensures marks { OnOk result (marks.new ≡ marks_on (values_of params.now) records.new.vectors) }
-    ensures events { OnOk result (events.new ≡ events.old ++ cases_of marks.old marks.new) }
-    ensures counts { steps.old ≤ steps.new }
+    ensures clusters { OnOk result
+        (StandBy M.dist (values_of params.now) records.new clusters.new) }
+    ensures tree { OnOk result (clusters.new.tree
+        ≡ tree_after M.dist M.most records.old change clusters.old.tree) }
+    ensures events { OnOk result (events.new ≡ events.old
+        ++ cases_of (marks_on (values_of params.now) records.old.vectors)
+        (marks_on (values_of params.now) records.new.vectors)) }
+    ensures price { IsPaid M.most (density M.dist params.now.eps params.now.minpts)
+        clusters.old.tree records.old change steps.old steps.new }
+    ensures work { steps.new ≤ steps.old
+        + work_of (density_by (values_of params.now)) records.old change }
 {
-    apply_change(records, change)?;
-    let after = cluster::<M, L>(alloc, params, records, steps)?;
-    cases_plain(alloc, marks, &after, events)?;
-    *marks = after;
-    Ok(())
+    match change {
+        Change::Insert(number, vector) => clusters.insert(records, number, vector, events, steps),
+        Change::Delete(number) => clusters.delete(records, number, events, steps),
+    }
 }
 
-/// Applies the changes of an accepted batch in their order, and gives their events.
+/// Applies the changes of an accepted batch in their order, and gives their events. What they may
+/// cost they cost after want of memory too.
 pub(crate) fn apply_changes<M: Metric, L: Ledger>(
     alloc: Global,
     params: &Params,
     records: &mut Records,
-    marks: &mut Marks,
+    clusters: &mut Clusters<M>,
     changes: Changes,
     steps: &mut Steps<L>,
 ) -> Result<Events, AllocError>
     requires kind { params.now.metric ≡ M.KIND }
     requires holds { CanHold (values_of params.now) records.old }
-    requires marks { marks.old ≡ marks_on (values_of params.now) records.old.vectors }
+    requires clusters { StandBy M.dist (values_of params.now) records.old clusters.old }
     requires fits { AllByRecursion (IsChangeOf (width_of params.now.metric params.now.dim))
         changes }
     requires spelled { AllByRecursion (IsSpelledChange params.now.metric params.now.dim) changes }
@@ -65,14 +73,20 @@ pub(crate) fn apply_changes<M: Metric, L: Ledger>(
     ensures records { OnOk result
         (records.new.vectors ≡ rows_after (values_of params.now) records.old.vectors changes) }
     ensures holds { OnOk result (CanHold (values_of params.now) records.new) }
-    ensures marks { OnOk result (marks.new ≡ marks_on (values_of params.now) records.new.vectors) }
+    ensures clusters { OnOk result
+        (StandBy M.dist (values_of params.now) records.new clusters.new) }
+    ensures tree { OnOk result (clusters.new.tree
+        ≡ tree_after_all M.dist M.most records.old changes clusters.old.tree) }
     ensures events { IfOk result
         (λ events. events ≡ events_of (values_of params.now) records.old.vectors changes) }
-    ensures counts { steps.old ≤ steps.new }
+    ensures price { ArePaid M.most (density M.dist params.now.eps params.now.minpts)
+        clusters.old.tree records.old changes steps.old steps.new }
+    ensures work { steps.new ≤ steps.old
+        + work_of_all (density_by (values_of params.now)) records.old changes }
 {
     let mut events = Events::new(alloc);
     for change in changes.into_vec() {
-        apply_one::<M, L>(alloc, params, records, marks, &mut events, change, steps)?;
+        apply_one::<M, L>(params, records, clusters, &mut events, change, steps)?;
     }
     Ok(events)
 }

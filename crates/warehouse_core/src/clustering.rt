@@ -1,29 +1,38 @@
-//! The marks of records, by the metric of a store.
+//! The clusters of a store in memory.
 ghost use Rattle.std.specs.Prelude.{◌≡◌, ◌≤◌, IfOk};
-ghost use Rattle.std.specs.List.{AllByRecursion};
 ghost use Rattle.std.specs.FinMap as map;
-ghost use Rattle.page_layout.specs.Heads.{values_of};
-ghost use Rattle.store_image.specs.Placing.{CanStand};
-ghost use Rattle.warehouse_core.specs.Batches.{marks_on};
+ghost use Rattle.page_layout.specs.Heads.{plain};
+ghost use Rattle.warehouse_core.specs.Inside.{StandBy};
 
-use plain_dbscan::{Marks, cluster_plain};
+use kept_clusters::{Built, Clusters, build};
 use std::alloc::{AllocError, Global};
 use std::sync::ledger::Ledger;
-use vec_record::{Metric, Params, Records, Steps};
+use store_image::Loaded;
+use vec_record::{Metric, Steps};
 
-/// The marks of all records, made anew.
+/// The same store in memory, and the clusters of its records, made anew.
 pub(crate) fn cluster<M: Metric, L: Ledger>(
     alloc: Global,
-    params: &Params,
-    records: &Records,
+    state: Loaded,
     steps: &mut Steps<L>,
-) -> Result<Marks, AllocError>
-    requires kind { params.now.metric ≡ M.KIND }
-    requires each { AllByRecursion (CanStand (values_of params.now))
-        (map.entries records.now.vectors) }
-    ensures marks { IfOk result
-        (λ marks. marks ≡ marks_on (values_of params.now) records.now.vectors) }
-    ensures counts { steps.old ≤ steps.new }
+) -> Result<(Loaded, Clusters<M>), AllocError>
+    requires { map.len state.records.vectors ≤ 200000 }
+    ensures state { IfOk result (λ c. c.0 ≡ state) }
+    ensures clusters { IfOk result
+        (λ c. StandBy M.dist (plain state.head).values state.records c.1) }
 {
-    cluster_plain::<M, L>(alloc, records, params.eps, params.minpts, steps)
+    let Loaded {
+        head,
+        records,
+        places,
+    } = state;
+    let eps = head.params.eps;
+    let minpts = head.params.minpts;
+    let Built { records, clusters } = build::<M, L>(alloc, records, eps, minpts, steps)?;
+    let state = Loaded {
+        head,
+        records,
+        places,
+    };
+    Ok((state, clusters))
 }

@@ -1,17 +1,16 @@
-//! The warehouse: records, their marks and their store, changed by one batch at a time.
+//! The warehouse: records, their clusters and their store, changed by one batch at a time.
 //!
 //! It stands on every layer below the top call. [`Warehouse::apply`] takes a batch as one step:
 //! refused with everything as it was, or committed whole; at every moment of the call a crash
 //! leaves the store before the batch or the one after it. The feed is told the events of each batch
-//! that is accepted, after its commit.
+//! that is accepted, after its commit. What a batch costs is what its changes cost the clusters that
+//! are kept: no batch clusters anew.
 #![tactic(auto)]
 
 mod changing;
 mod clustering;
 mod judging;
 pub mod laws;
-mod near;
-mod queries;
 mod receipt;
 pub mod refusal;
 mod saving;

@@ -2,7 +2,8 @@
 
 ghost use Rattle.std.specs.Prelude.{◌≡◌, ◌≤◌, ◌<◌, ◌⊎◌, ℕ, List, Bool, true, false, [], ◌∷◌, ◌++◌};
 ghost use Rattle.std.specs.Prelude.{◌+◌, ◌*◌};
-ghost use Rattle.std.specs.Prelude.{Ok, Err, None, length, IsTrue, IsOk, IsErr, IfOk, OnOk, OnErr};
+ghost use Rattle.std.specs.Prelude.{Ok, Err, None, Some, length, IsTrue, IsOk, IsErr, IfOk};
+ghost use Rattle.std.specs.Prelude.{OnOk, OnErr};
 ghost use Rattle.std.specs.Prelude.{IfErr, MatchResult};
 ghost use Rattle.site_disk.specs.Causes.{Rose};
 ghost use Rattle.page_gate.specs.Promises.{Holds};
@@ -14,8 +15,11 @@ ghost use Rattle.store_image.specs.Loading.{load_of, params_in_pages, Fails};
 ghost use Rattle.vec_record.specs.Limits.{width_of};
 ghost use Rattle.page_layout.specs.Heads.{Values, values_of};
 ghost use Rattle.event_feed.specs.Meanings.{meanings, told_all};
-ghost use Rattle.warehouse_core.specs.Batches.{events_of, marks_on};
-ghost use Rattle.warehouse_core.specs.States.{State, LoadsAs};
+ghost use Rattle.plain_dbscan.specs.Marks.{density};
+ghost use Rattle.mtree_index.specs.Tree.{query_cost};
+ghost use Rattle.warehouse_core.specs.Batches.{density_by, events_of, marks_on};
+ghost use Rattle.warehouse_core.specs.Costs.{ArePaid, work_of_all, tree_after_all};
+ghost use Rattle.warehouse_core.specs.States.{State, LoadsAs, held_in};
 ghost use Rattle.cluster_report.specs.Counts.{summary_of};
 ghost use Rattle.warehouse_core.specs.Queries.{mark_on, members_of, near_on};
 ghost use Rattle.warehouse_core.specs.Applying.{Accepts, IsRefusedBy, Steps as BatchSteps, due};
@@ -24,33 +28,31 @@ ghost use Rattle.warehouse_core.specs.Applying.{events_due, is_numbered};
 use crate::changing::apply_changes;
 use crate::clustering::cluster;
 use crate::judging::judge;
-use crate::near::near_record;
-use crate::queries::{copied, members_of};
 use crate::receipt::{count_deletions, count_insertions, receipt};
 use crate::refusal::Refusal;
 use crate::saving::save;
-use cluster_report::{Summary, count_marks};
+use cluster_report::Summary;
 use event_feed::{Watcher, WatcherSlots};
+use kept_clusters::Clusters;
 use page_gate::Pages;
-use plain_dbscan::{Mark, Marks, find_mark};
+use plain_dbscan::{Mark, Marks};
 use site_disk::Site;
 use std::alloc::{AllocError, Global};
-use std::marker::{Model, PhantomData};
+use std::marker::Model;
 use std::sync::ledger::Ledger;
 use store_image::laws::loads_are_stores;
 use store_image::{Loaded, StoreFault};
 use vec_record::{Bytes, Changes, Metric, Number, Numbers, Params, Records, Steps};
 
-/// Records, their marks and their store.
+/// Records, their clusters and their store.
 #[derive(Drop)]
 pub struct Warehouse<M: Metric> {
     alloc: Global,
     pages: Pages,
     state: Loaded,
-    marks: Marks,
+    clusters: Clusters<M>,
     stored: bool,
     failed: bool,
-    metric: PhantomData<M>,
 }
 
 impl<M: Metric> Model for Warehouse<M> {
@@ -63,13 +65,14 @@ impl<M: Metric> Model for Warehouse<M> {
 
     ghost use Rattle.warehouse_core.specs.Inside.{Stands, state_of};
 
-    ghost view = { λ w. state_of w.state w.pages.list w.stored w.failed };
+    ghost view = { λ w. state_of w.state w.pages.list w.stored w.failed w.clusters };
 
-    ghost invariant = { λ w. w.failed ≡ false → Stands M.KIND w.state w.pages.list w.marks };
+    ghost invariant = { λ w. w.failed ≡ false
+        → Stands M.dist M.KIND w.state w.pages.list w.clusters };
 }
 
 impl<M: Metric> Warehouse<M> {
-    /// A stored warehouse: the records of its pages, with their marks made anew. A refusal other
+    /// A stored warehouse: the records of its pages, with their clusters made anew. A refusal other
     /// than want of memory is the one that the pages have. The metric is to be that of the store.
     pub fn load<L: Ledger>(
         alloc: Global,
@@ -80,18 +83,16 @@ impl<M: Metric> Warehouse<M> {
         ensures loaded { MatchResult result
             (λ w. LoadsAs pages.list w.values w.rows w.batches × (w.pages ≡ pages.list)
             × (w.stored ≡ true) × (w.failed ≡ false)) (λ e. Fails e (load_of pages.list)) }
-        ensures counts { steps.old ≤ steps.new }
     {
         let state = store_image::load(alloc, &pages)?;
-        let marks = cluster::<M, L>(alloc, &state.head.params, &state.records, steps)?;
+        let (state, clusters) = cluster::<M, L>(alloc, state, steps)?;
         Ok(Warehouse {
             alloc,
             pages,
             state,
-            marks,
+            clusters,
             stored: true,
             failed: false,
-            metric: PhantomData,
         })
     }
 
@@ -148,7 +149,15 @@ impl<M: Metric> Warehouse<M> {
         // What a crash leaves at each moment.
         ensures moments { IsTrue T.tells
             → BatchSteps body.now result self.old (T.state site.old) (T.state site.new) }
-        ensures counts { steps.old ≤ steps.new }
+
+        // What an accepted batch may cost, whatever is answered, by the tree and by the records.
+        ensures price { IfOk (due self.old body.now) (λ changes. ArePaid M.most
+            (density M.dist self.old.values.eps self.old.values.minpts) self.old.tree
+            (held_in self.old) changes steps.old steps.new) }
+        ensures work { IfOk (due self.old body.now) (λ changes. steps.new ≤ steps.old
+            + work_of_all (density_by self.old.values) (held_in self.old) changes) }
+        ensures tree { OnOk result (IfOk (due self.old body.now) (λ changes. self.new.tree
+            ≡ tree_after_all M.dist M.most (held_in self.old) changes self.old.tree)) }
     {
         loads_are_stores();
         let params = self.state.head.params;
@@ -199,7 +208,13 @@ impl<M: Metric> Warehouse<M> {
         ensures later { T.faults site.old ≤ T.faults site.new }
         ensures moments { IsTrue T.tells → (body : List ℕ) → due self.old body ≡ Ok changes
             → BatchSteps body result self.old (T.state site.old) (T.state site.new) }
-        ensures counts { steps.old ≤ steps.new }
+        ensures price { ArePaid M.most
+            (density M.dist self.old.values.eps self.old.values.minpts) self.old.tree
+            (held_in self.old) changes steps.old steps.new }
+        ensures work { steps.new ≤ steps.old
+            + work_of_all (density_by self.old.values) (held_in self.old) changes }
+        ensures tree { OnOk result (self.new.tree
+            ≡ tree_after_all M.dist M.most (held_in self.old) changes self.old.tree) }
     {
         loads_are_stores();
         // What is in memory runs ahead of the store until the batch is saved.
@@ -209,8 +224,8 @@ impl<M: Metric> Warehouse<M> {
         let insertions = count_insertions(changes.as_slice());
         let deletions = count_deletions(changes.as_slice());
         let records = &mut self.state.records;
-        let marks = &mut self.marks;
-        let events = apply_changes::<M, L>(alloc, &params, records, marks, changes, steps)?;
+        let clusters = &mut self.clusters;
+        let events = apply_changes::<M, L>(alloc, &params, records, clusters, changes, steps)?;
         let batch = self.state.head.batches + 1;
         let line = receipt(alloc, batch, insertions, deletions, events.as_slice())?;
         let pages = &mut self.pages;
@@ -256,12 +271,12 @@ impl<M: Metric> Warehouse<M> {
     {
         self.state.head.batches
     }
-    /// The mark of a number, by one look-up in memory; `None` exactly where the number is absent.
+    /// The mark of a number, by a few look-ups in memory; `None` exactly where the number is absent.
     pub fn mark_of(&self, number: Number) -> Option<Mark>
         requires { self.now.failed ≡ false }
         ensures { result ≡ mark_on self.now.values self.now.rows number }
     {
-        find_mark(self.marks.as_slice(), number)
+        self.clusters.mark_of(number)
     }
 
     /// Each number with its mark, rising.
@@ -269,7 +284,7 @@ impl<M: Metric> Warehouse<M> {
         requires { self.now.failed ≡ false }
         ensures { IfOk result (λ marks. marks ≡ marks_on self.now.values self.now.rows) }
     {
-        copied(self.alloc, self.marks.as_slice())
+        self.clusters.marks(&self.state.records)
     }
 
     /// The cores and borders with a label, by rising number; `None` exactly where no core has it.
@@ -278,7 +293,7 @@ impl<M: Metric> Warehouse<M> {
         ensures { IfOk result (λ members. members
             ≡ members_of label (marks_on self.now.values self.now.rows)) }
     {
-        members_of(self.alloc, self.marks.as_slice(), label)
+        self.clusters.members(&self.state.records, label)
     }
 
     /// Gives in `out`, in place of what it held, the numbers near a record, rising, itself among
@@ -296,16 +311,11 @@ impl<M: Metric> Warehouse<M> {
         ensures absent { result ≡ Ok false → out.new ≡ out.old }
         ensures err { OnErr result (map.contains_key self.now.rows number ≡ true) }
         ensures kept { OnErr result (out.new ≡ out.old) }
+        ensures cost { (v : List ℕ) → map.get self.now.rows number ≡ Some v → steps.new ≤ steps.old
+            + query_cost M.dist self.now.tree v self.now.values.eps }
         ensures most { steps.new ≤ steps.old + 2 * map.len self.now.rows }
     {
-        let params = &self.state.head.params;
-        match near_record::<M, L>(self.alloc, params, &self.state.records, number, steps)? {
-            None => Ok(false),
-            Some(near) => {
-                *out = near;
-                Ok(true)
-            }
-        }
+        self.clusters.near(&self.state.records, number, out, steps)
     }
 
     /// The counts of all marks, in one pass that takes no memory.
@@ -313,6 +323,6 @@ impl<M: Metric> Warehouse<M> {
         requires { self.now.failed ≡ false }
         ensures { result ≡ summary_of (marks_on self.now.values self.now.rows) }
     {
-        count_marks(self.marks.as_slice())
+        self.clusters.summary(&self.state.records)
     }
 }

@@ -1,4 +1,4 @@
-use Rattle.std.proofs.Common.{◌≡◌, ◌≤◌, length}
+use Rattle.std.proofs.Common.{◌≡◌, length}
 use Rattle.std.specs.Vec.Iter.{into_iter_items, into_iter_len}
 use Rattle.page_layout.specs.Heads.{values_of}
 use Rattle.warehouse_core.proofs.Applied.{Goes}
@@ -9,5 +9,4 @@ invariant-loop-change g l =
     (goal.iterator-loop-change g).can_next l.change-iterator ×
     (goal.iterator-loop-change g).is_finite l.change-iterator
     × (into_iter_len l.change-iterator ≡ length (into_iter_items l.change-iterator))
-    × Goes (values_of l.params) l.fn.records.vectors l.fn.changes l.records l.marks l.events (into_iter_items l.change-iterator)
-    × (l.fn.steps ≤ l.steps)
+    × Goes g.M.Metric.dist g.M.Metric.most (values_of l.params) l.fn.records l.fn.clusters.tree l.fn.steps l.fn.changes l.records l.clusters l.events l.steps (into_iter_items l.change-iterator)

@@ -1,21 +1,23 @@
-use Rattle.std.proofs.Common.{◌≡◌, ◌∙◌, ap, subst, sym}
-use lib.Dec.{T}
-use Rattle.std.specs.Ordering.{nat_cmp}
-use Rattle.std.specs.FinMap.Entries.{is_sorted}
-use Rattle.plain_dbscan.specs.Cases.{mark_at}
+use Rattle.std.proofs.Common.{◌≡◌, ℕ, List, IfOk, Some, sym, ap, subst, ◌∙◌}
+use Rattle.std.proofs.lemmas.Result.{IfOk-weaker}
+use Rattle.vec_record.specs.Distance.{distance_of}
+use Rattle.page_layout.specs.Heads.{plain}
+use Rattle.plain_dbscan.specs.Cases.{Listed}
+use Rattle.cluster_report.specs.Counts.{summary_of}
 use Rattle.warehouse_core.specs.Batches.{marks_on}
-use Rattle.warehouse_core.proofs.Found.{Listed, marks_listed, marks_sorted, mark_found}
+use Rattle.warehouse_core.specs.Queries.{mark_on, members_of, near_on}
+use Rattle.warehouse_core.specs.States.{State}
+use Rattle.warehouse_core.proofs.Alike.{lawful_width}
+use Rattle.warehouse_core.proofs.Found.{IsDistance, marks_found, mark_found, near_found}
+use Rattle.warehouse_core.proofs.Moments.{stands}
 use Rattle.warehouse_core.proofs.warehouse.Warehouse.mark_of.Goals as goal
-
-pub find_mark-requires : goal.find_mark-requires
-find_mark-requires g c =
-    let w = c.args.self.now in
-    let are : c.as_slice.result.now ≡ marks_on w.values w.rows = c.as_slice.ensures ∙ marks_listed _ _ _ _ _ _ _ c.self.invariant c.self.view_is c.requires in
-    let P : Listed → Type 0 = λ l. T (is_sorted nat_cmp l) in
-    subst P (sym are) (marks_sorted w.values w.rows)
 
 pub returns : goal.returns
 returns g c =
-    let w = c.args.self.now in
-    let are : c.as_slice.result.now ≡ marks_on w.values w.rows = c.as_slice.ensures ∙ marks_listed _ _ _ _ _ _ _ c.self.invariant c.self.view_is c.requires in
-    c.find_mark.ensures ∙ ap (λ (marks : Listed). mark_at marks c.args.number) are ∙ mark_found w.values w.rows c.args.number
+    let s = c.self.inside.state in
+    let p = s.head.params in
+    let standing = stands _ _ _ _ _ _ _ _ c.self.invariant c.self.view_is c.requires in
+    let law : IsDistance g.M.Metric.dist (plain s.head).values = λ a b is_a is_b.
+    (g.met.M.Metric.defined _ a b (lawful_width p.metric p.dim p.eps p.minpts p.cap p.limits) is_a is_b).0 ∙ ap (λ k. distance_of k a b) (sym standing.kind_is) in
+    let P : State → Type 0 = λ w. c.mark_of.result ≡ mark_on w.values w.rows c.args.number in
+    subst P c.self.view_is (c.mark_of.ensures s.records standing.clusters.stand ∙ mark_found standing.clusters standing.holds.held law c.args.number)
