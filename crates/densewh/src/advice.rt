@@ -8,7 +8,8 @@ use std::io;
 /// What a refusal's number means.
 const REFUSALS: &str = "11 malformed record, 12 vector of the wrong length, 13 number is present, \
 14 number is absent, 15 store is full, 16 over 100,000 records, 17 input ends before the line end, \
-18 line over 4,096 bytes, 19 no batch number is left, 21 unknown line";
+18 line over 4,096 bytes, 19 no batch number is left, 21 unknown line, 22 number is absent, \
+23 no cluster has the label, 24 slot is empty";
 
 /// Where there is no command.
 const NO_WORD: &str = "there was no word, or one that isn't UTF-8: give once, init or serve";

@@ -1,5 +1,6 @@
-//! The program. It hands the words, standard input and the file beside standard output to the top
-//! call of `session_desk`, says on standard error what the status means, and ends with its number.
+//! The program. It hands the words, standard input, the file beside standard output and two
+//! watchers to the top call of `session_desk`, says on standard error what the status means, and
+//! ends with its number.
 #![tactic(auto)]
 
 mod advice;
@@ -7,6 +8,7 @@ mod advice;
 ghost use Rattle.std.specs.Prelude.{◌≡◌, ◌<◌};
 
 use advice::explain;
+use event_feed::{LastHundred, Tally, Watcher};
 use session_desk::{Status, run};
 use site_disk::{FileSite, StdSource};
 use std::alloc::{AllocError, Global};
@@ -32,22 +34,35 @@ fn words(rt: &HostRuntime) -> Result<Vec<String>, AllocError> {
     }
 }
 
-fn run_on<L: Ledger>(alloc: Global, rt: &HostRuntime, words: &[String], blank: Blank) -> Status
+/// Runs the words with the two watchers of the program: a tally, and the last 100 events.
+fn run_on<L: Ledger>(
+    alloc: Global,
+    rt: &HostRuntime,
+    words: &[String],
+    blank: Blank,
+) -> Result<Status, AllocError>
     requires name { blank.name ≡ L.name }
     requires parts { blank.parts ≡ L.parts }
     requires some { 0 < blank.parts }
 {
+    let mut watchers: Vec<Box<dyn Watcher>> = Vec::with_capacity(alloc, 2)?;
+    watchers.push(Box::new(alloc, Tally::new())?)?;
+    watchers.push(Box::new(alloc, LastHundred::new(alloc)?)?)?;
     let mut source = StdSource::new(rt);
     let mut site = FileSite::new(rt);
     let mut steps = Steps::<L>::new(rt, blank);
-    let status = run(alloc, words, &mut source, &mut site, &mut steps);
+    let status = run(alloc, words, &mut source, &mut site, watchers, &mut steps);
     explain(rt, status, words, source.last_error(), site.last_error());
-    status
+    Ok(status)
 }
 
 fn main(rt: HostRuntime) -> ExitCode {
-    let status = match words(&rt) {
+    let ended = match words(&rt) {
         Ok(words) => run_on::<Brand>(rt.alloc(), &rt, &words, Blank::new(1)),
+        Err(error) => Err(error),
+    };
+    let status = match ended {
+        Ok(status) => status,
         Err(_) => {
             explain(&rt, Status::Memory, &[], None, None);
             Status::Memory

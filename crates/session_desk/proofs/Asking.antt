@@ -16,18 +16,19 @@ neither : (a b : Bool) → (a || b) ≡ false → (a ≡ false) × (b ≡ false)
 neither true b e = absurd (cc e)
 neither false b e = (refl, e)
 
-split_line : (raw more : List ℕ) → IsOneLine raw → slice_split is_line_feed (raw ++ 10 ∷ more) ≡ raw ∷ slice_split is_line_feed more
-split_line [] more one = refl
-split_line (b ∷ raw) more one =
-    let each = neither (is_line_feed b) (list_any is_line_feed raw) one in
-    ap (λ t. cond t ([] ∷ slice_split is_line_feed (raw ++ 10 ∷ more)) (onto_first b (slice_split is_line_feed (raw ++ 10 ∷ more)))) each.0
-    ∙ ap (onto_first b) (split_line raw more each.1)
+-- bytes are parted at the first that passes a test, or not at all where none does
+pub split_first : (p : ℕ → Bool) (feed : ℕ) → p feed ≡ true → (raw more : List ℕ) → list_any p raw ≡ false → slice_split p (raw ++ feed ∷ more) ≡ raw ∷ slice_split p more
+split_first p feed passes [] more none = ap (λ t. cond t ([] ∷ slice_split p more) (onto_first feed (slice_split p more))) passes
+split_first p feed passes (b ∷ raw) more none =
+    let each = neither (p b) (list_any p raw) none in
+    ap (λ t. cond t ([] ∷ slice_split p (raw ++ feed ∷ more)) (onto_first b (slice_split p (raw ++ feed ∷ more)))) each.0
+    ∙ ap (onto_first b) (split_first p feed passes raw more each.1)
 
-split_none : (raw : List ℕ) → IsOneLine raw → slice_split is_line_feed raw ≡ raw ∷ []
-split_none [] one = refl
-split_none (b ∷ raw) one =
-    let each = neither (is_line_feed b) (list_any is_line_feed raw) one in
-    ap (λ t. cond t ([] ∷ slice_split is_line_feed raw) (onto_first b (slice_split is_line_feed raw))) each.0 ∙ ap (onto_first b) (split_none raw each.1)
+pub split_whole : (p : ℕ → Bool) (raw : List ℕ) → list_any p raw ≡ false → slice_split p raw ≡ raw ∷ []
+split_whole p [] none = refl
+split_whole p (b ∷ raw) none =
+    let each = neither (p b) (list_any p raw) none in
+    ap (λ t. cond t ([] ∷ slice_split p raw) (onto_first b (slice_split p raw))) each.0 ∙ ap (onto_first b) (split_whole p raw each.1)
 
 counted_more : (rest : Bool) (line : List ℕ) (parts : List (List ℕ)) → 0 < length parts → counted rest (line ∷ parts) ≡ line ∷ counted rest parts
 counted_more rest line [] some = absurd (omega arith)
@@ -36,7 +37,7 @@ counted_more rest line (next ∷ parts) some = refl
 -- a line that a line feed ends is the first line
 pub first_line : (rest : Bool) (raw more : List ℕ) → IsOneLine raw → lines_of rest (raw ++ 10 ∷ more) ≡ raw ∷ lines_of rest more
 first_line rest raw more one =
-    ap (counted rest) (split_line raw more one) ∙ counted_more rest raw (slice_split is_line_feed more) (omega (arith, length-slice_split is_line_feed more))
+    ap (counted rest) (split_first is_line_feed 10 refl raw more one) ∙ counted_more rest raw (slice_split is_line_feed more) (omega (arith, length-slice_split is_line_feed more))
 
 last_counted : (raw : List ℕ) (some : Bool) → some ≡ true → cond (true && some) (raw ∷ []) [] ≡ raw ∷ []
 last_counted raw some e = ap (λ t. cond (true && t) (raw ∷ []) []) e
@@ -45,11 +46,11 @@ last_counted raw some e = ap (λ t. cond (true && t) (raw ∷ []) []) e
 pub last_line : (raw : List ℕ) → IsOneLine raw → 0 < length raw → lines_of true raw ≡ raw ∷ []
 last_line raw one some =
     let is : nat_lt 0 (length raw) ≡ true = grind (arith, nat_tests) in
-    ap (counted true) (split_none raw one) ∙ last_counted raw (nat_lt 0 (length raw)) is
+    ap (counted true) (split_whole is_line_feed raw one) ∙ last_counted raw (nat_lt 0 (length raw)) is
 
 -- and else it is none
 pub no_line : (part : List ℕ) → IsOneLine part → lines_of false part ≡ []
-no_line part one = ap (counted false) (split_none part one)
+no_line part one = ap (counted false) (split_whole is_line_feed part one)
 
 same_tests : (a b c d : ℕ) (x y : Bool) → nat_lt a b ≡ x → nat_lt c d ≡ y → a + d ≡ c + b → x ≡ y
 same_tests a b c d true true p q e = refl

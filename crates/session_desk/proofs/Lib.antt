@@ -7,6 +7,8 @@ pub mod Replies
 pub mod LineParts
 pub mod Skipped
 pub mod Asking
+pub mod WordLines
+pub mod Telling
 pub mod Passing
 pub mod Talking
 pub mod Turns

@@ -3,16 +3,20 @@ use Rattle.std.proofs.Common.{◌≡◌, ◌⊎◌, inl, inr, ℕ, ◌+◌, ◌-
 use Rattle.std.specs.Prelude.{Option, Some, None, Result, Ok, Err, nat_le}
 use Rattle.std.specs.List.{list_any}
 use Rattle.std.proofs.lemmas.Bool.Decides.{nat_tests}
-use Rattle.vec_record.specs.Held.{Rows}
+use Rattle.std.specs.FinMap as map
 use Rattle.vec_record.specs.declared.change.Change.{Change}
+use Rattle.plain_dbscan.specs.declared.marks.Mark.{Mark}
+use Rattle.event_feed.specs.Meanings.{Meaning, Slots, slot_at}
+use Rattle.cluster_report.specs.Texts.{near_text}
 use Rattle.page_gate.specs.declared.fault.OpenFault as gate
 use Rattle.page_gate.specs.declared.fault.OpenFault.TheVariants as gate_fault
 use Rattle.page_layout.specs.Heads.{Values}
 use Rattle.store_image.specs.Stores.{IsSound, records_on, refusal_on}
 use Rattle.warehouse_core.specs.declared.refusal.Refusal as batch
 use Rattle.warehouse_core.specs.declared.refusal.Refusal.TheVariants as batch_refusal
-use Rattle.warehouse_core.specs.Batches.{outcome}
-use Rattle.session_desk.specs.Session.{Answer, Request, Batch, Cut, Ask, SessionState, answer, answers, behind, batch_answer, line_answer, refuses, acked, in_list, body_of, requests_of}
+use Rattle.warehouse_core.specs.Batches.{marks_on, outcome}
+use Rattle.warehouse_core.specs.Queries.{mark_on, members_of, near_on}
+use Rattle.session_desk.specs.Session.{Answer, Request, Batch, Cut, Ask, SessionState, answer, answers, behind, batch_answer, line_answer, label_answer, cluster_answer, watch_answer, drop_answer, tells, refuses, acked, in_list, body_of, requests_of}
 use Rattle.session_desk.specs.declared.requests.Line.{Line}
 use Rattle.session_desk.specs.declared.requests.Line.TheVariants as line
 use Rattle.session_desk.specs.Input.{is_long}
@@ -40,8 +44,31 @@ either : (b : Bool) (x y : Answer) → HasText x → HasText y → HasText (cond
 either true x y hx hy = hx
 either false x y hx hy = hy
 
+-- an answer to a line accepts no batch
+label-accepts : (n : ℕ) (mark : Option Mark) → (label_answer n mark).accepted ≡ None
+label-accepts n None = refl
+label-accepts n (Some mark) = refl
+
+cluster-accepts : (n : ℕ) (members : Option (List (ℕ × Mark))) → (cluster_answer n members).accepted ≡ None
+cluster-accepts n None = refl
+cluster-accepts n (Some members) = refl
+
+watch-accepts : (slot : Option Meaning) → (watch_answer slot).accepted ≡ None
+watch-accepts None = refl
+watch-accepts (Some says) = refl
+
+drop-accepts : (k : ℕ) (slot : Option Meaning) → (drop_answer k slot).accepted ≡ None
+drop-accepts k None = refl
+drop-accepts k (Some says) = refl
+
 line-has-text : (v : Values) (s : SessionState) (line : Line) → HasText (line_answer v s line)
 line-has-text v s line.Report = inl refl
+line-has-text v s line.Summary = inl refl
+line-has-text v s (line.Label n) = inl (label-accepts n (mark_on v s.rows n))
+line-has-text v s (line.Cluster n) = inl (cluster-accepts n (members_of n (marks_on v s.rows)))
+line-has-text v s (line.Near n) = either (map.contains_key s.rows n) (tells (near_text n (near_on v s.rows n))) (refuses 22 None) (inl refl) (inl refl)
+line-has-text v s (line.Watch k) = inl (watch-accepts (slot_at k s.slots))
+line-has-text v s (line.Drop k) = inl (drop-accepts k (slot_at k s.slots))
 line-has-text v s line.Unknown = inl refl
 line-has-text v s line.Long = inl refl
 
@@ -71,19 +98,19 @@ pub none-given : (v : Values) (s : SessionState) (rs : List Request) → acked 0
 none-given v s [] = refl
 none-given v s (r ∷ more) =
     let a = answer v s r in
-    none-first a (answers v (behind v s a.accepted) more) (has-text v s r) (none-given v (behind v s a.accepted) more)
+    none-first a (answers v (behind v s a) more) (has-text v s r) (none-given v (behind v s a) more)
 
-none-by : (fault : Option gate.OpenFault) (c input : List ℕ) → acked 0 (course_by fault c input).answers ≡ 0
-none-by None c input = none-given (values_on c) (state_on c) (requests_of input)
-none-by (Some gate_fault.Blank) c input = refl
-none-by (Some gate_fault.Foreign) c input = refl
-none-by (Some (gate_fault.Damaged page offset)) c input = refl
-none-by (Some gate_fault.SiteFault) c input = refl
-none-by (Some gate_fault.Memory) c input = refl
+none-by : (fault : Option gate.OpenFault) (c : List ℕ) (watchers : Slots) (input : List ℕ) → acked 0 (course_by fault c watchers input).answers ≡ 0
+none-by None c watchers input = none-given (values_on c) (state_on c watchers) (requests_of input)
+none-by (Some gate_fault.Blank) c watchers input = refl
+none-by (Some gate_fault.Foreign) c watchers input = refl
+none-by (Some (gate_fault.Damaged page offset)) c watchers input = refl
+none-by (Some gate_fault.SiteFault) c watchers input = refl
+none-by (Some gate_fault.Memory) c watchers input = refl
 
-pub acked-none : (c input : List ℕ) → acked 0 (session c input).answers ≡ 0
+pub acked-none : (c : List ℕ) (watchers : Slots) (input : List ℕ) → acked 0 (session c watchers input).answers ≡ 0
 unfolding session
-acked-none c input = none-by (refusal_on c) c input
+acked-none c watchers input = none-by (refusal_on c) c watchers input
 
 module _ {S : Type 0} (state : S → SiteState) where
   -- what each content is that a run may find or leave: sound, with records that grew through the runs before
@@ -96,8 +123,8 @@ module _ {S : Type 0} (state : S → SiteState) where
   step : (r : Run S) (past : List (Run S)) (Found : List ℕ → Type 0) (image : List ℕ) → Starts state r (LastsFrom past Found) → MayLeave state r image → LastsFrom (r ∷ past) Found image
   step r past Found image starts (inl quiet) =
       let was = starts.each image quiet.1 in
-      let few : acked r.said (session (content_of state r) r.input).answers ≤ 0 =
-      let none : acked r.said (session (content_of state r) r.input).answers ≡ 0 = ap (λ (k : ℕ). acked k (session (content_of state r) r.input).answers) quiet.0 ∙ acked-none (content_of state r) r.input in
+      let few : acked r.said (session (content_of state r) r.watchers r.input).answers ≤ 0 =
+      let none : acked r.said (session (content_of state r) r.watchers r.input).answers ≡ 0 = ap (λ (k : ℕ). acked k (session (content_of state r) r.watchers r.input).answers) quiet.0 ∙ acked-none (content_of state r) r.watchers r.input in
       omega (arith, none) in
       let still : (0 < 0) ⊎ (0 < r.said) → image ≡ content_of state r = λ moved. absurd (omega (arith, moved, quiet.0)) in
       let through : GoesThrough state r (records_on image) (records_on image) = record { before = image; found = quiet.1; rows_before = refl; m = 0; own = still; some = omega arith; holds = few; rows_are = refl } in

@@ -28,15 +28,19 @@ found_or_len bytes = elim (cases_lt (line_len bytes) (length bytes)) [
   | inr above ↦ let t : ltb (line_len bytes) (length bytes) ≡ false = grind (arith, nat_tests, above) in rw t (omega (arith, above, line_len-le bytes))
 ]
 
+-- no byte that passes a test stands before the first one
+pub none_in_front : (p : ℕ → Bool) (n : ℕ) (bytes : List ℕ) → n ≤ position_or_len p bytes → list_any p (take n bytes) ≡ false
+none_in_front p zero bytes h = refl
+none_in_front p (suc n) [] h = refl
+none_in_front p (suc n) (b ∷ bs) h =
+    elim (p b) as (λ t. suc n ≤ cond (not t) (1 + position_or_len p bs) 0 → (t || list_any p (take n bs)) ≡ false) [
+      | true ↦ λ le. absurd (omega (arith, le))
+      | false ↦ λ le. none_in_front p n bs (omega (arith, le))
+    ] h
+
 -- no line feed stands before the first one
 pub one_line_front : (n : ℕ) (bytes : List ℕ) → n ≤ line_len bytes → IsOneLine (take n bytes)
-one_line_front zero bytes h = refl
-one_line_front (suc n) [] h = refl
-one_line_front (suc n) (b ∷ bs) h =
-    elim (is_line_feed b) as (λ t. suc n ≤ cond (not t) (1 + line_len bs) 0 → (t || list_any is_line_feed (take n bs)) ≡ false) [
-      | true ↦ λ le. absurd (omega (arith, le))
-      | false ↦ λ le. one_line_front n bs (omega (arith, le))
-    ] h
+one_line_front n bytes h = none_in_front is_line_feed n bytes h
 
 -- the first line feed parts the bytes
 pub feed_parts : (bytes : List ℕ) → line_len bytes < length bytes → bytes ≡ take (line_len bytes) bytes ++ 10 ∷ drop (line_len bytes + 1) bytes

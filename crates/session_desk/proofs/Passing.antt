@@ -1,7 +1,7 @@
 -- One line after the other.
 use Rattle.std.proofs.Common.{◌≡◌, ℕ, ◌+◌, ◌<◌, ◌≤◌, ◌==◌, Bool, true, false, cond, not, ◌||◌, true≢false, List, [], ◌∷◌, ◌++◌, length, take, codes, lit≤, inl, inr, ⊎_elim, refl, sym, ap, subst, ◌∙◌, append_assoc, arith, length-append}
 use Rattle.std.specs.Prelude.{Option, Some, None, Result, Ok, Err, IsErrOf}
-use Rattle.std.specs.List.{list_any}
+use Rattle.std.specs.List.{list_any, slice_split}
 use Rattle.std.specs.Str.{bytes_eq}
 use Rattle.std.proofs.lemmas.List.{append-nil, take-append-le}
 use Rattle.std.proofs.lemmas.Grind.{flat_map-append}
@@ -10,7 +10,7 @@ use Rattle.std.proofs.lemmas.Bool.Decides.{nat_tests}
 use Rattle.std.proofs.lemmas.Slice.Eq.{bytes_eq-Decides}
 use Rattle.std.proofs.Math.Seq.{take-nil}
 use Rattle.session_desk.specs.Input.{is_long}
-use Rattle.session_desk.specs.Session.{Request, Batch, Ask, line_of, bare, says, lines_of, requests, body_of}
+use Rattle.session_desk.specs.Session.{Request, Batch, Ask, is_space, line_of, line_of_words, bare, says, lines_of, requests, body_of}
 use Rattle.session_desk.specs.Lines.{Reading, IsHeld, IsOneLine, IsGiven, IsWhole, IsLongLine, IsUnfinished, IsEnd, Nexts, ends_in_return, raw_line}
 use Rattle.session_desk.specs.Asking.{is_past, asks_behind, whole_behind, rest_of, AreWhole, IsNext, IsBroken, Asks}
 use Rattle.session_desk.specs.Passing.{Passes, IsBrokenOff, Faults, PassesEnd, PassesAny, PassesWord, PassesKept, HasLines, word_of}
@@ -19,7 +19,7 @@ use Rattle.session_desk.specs.declared.requests.Body.{Body}
 use Rattle.session_desk.specs.declared.requests.Word.{Word}
 use Rattle.session_desk.specs.declared.requests.Word.TheVariants as word
 use Rattle.session_desk.specs.declared.requests.Line.{Line}
-use Rattle.session_desk.specs.declared.requests.Line.TheVariants.{Report, Unknown, Long}
+use Rattle.session_desk.specs.declared.requests.Line.TheVariants.{Long}
 use Rattle.session_desk.specs.declared.lines.SessionLine.{SessionLine}
 use Rattle.session_desk.specs.declared.lines.SessionLine.TheVariants as line
 use Rattle.session_desk.specs.declared.reading.ReadFault.TheVariants as fault
@@ -234,37 +234,36 @@ not_long raw short = grind (arith, nat_tests)
 
 -- One read, outside of a body and inside.
 
-word_by : (e b r : Bool) (line : List ℕ) (cr : Bool) (old : Reading) (left : List ℕ) (new : Reading) (left' : List ℕ)
-    → bytes_eq line [] ≡ e → bytes_eq line (codes "batch") ≡ b → bytes_eq line (codes "report") ≡ r → IsWhole line cr old left new left' → (old.ended ≡ true → new.ended ≡ true)
-    → PassesAny (cond e None (cond b (Some word.Batch) (Some (word.Line (cond r Report Unknown))))) old left new left'
-word_by true b r line cr old left new left' empty batch report whole ends =
+word_by : (e b : Bool) (line : List ℕ) (cr : Bool) (old : Reading) (left : List ℕ) (new : Reading) (left' : List ℕ)
+    → bytes_eq line [] ≡ e → bytes_eq line (codes "batch") ≡ b → IsWhole line cr old left new left' → (old.ended ≡ true → new.ended ≡ true)
+    → PassesAny (cond e None (cond b (Some word.Batch) (Some (word.Line (line_of_words (slice_split is_space line)))))) old left new left'
+word_by true b line cr old left new left' empty batch whole ends =
     let raw = raw_line line cr in
     let none : says [] raw ≡ true = says_raw [] line cr whole.marked ∙ empty in
     pass_line None None [] raw old left new left' (step_empty raw none) whole.given ends
-word_by false true r line cr old left new left' empty batch report whole ends =
+word_by false true line cr old left new left' empty batch whole ends =
     let raw = raw_line line cr in
     let some : says [] raw ≡ false = says_raw [] line cr whole.marked ∙ empty in
     let is : says (codes "batch") raw ≡ true = says_raw (codes "batch") line cr whole.marked ∙ batch in
     pass_line None (Some []) [] raw old left new left' (step_batch raw some is) whole.given ends
-word_by false false r line cr old left new left' empty batch report whole ends =
+word_by false false line cr old left new left' empty batch whole ends =
     let raw = raw_line line cr in
     let some : says [] raw ≡ false = says_raw [] line cr whole.marked ∙ empty in
     let isnt : says (codes "batch") raw ≡ false = says_raw (codes "batch") line cr whole.marked ∙ batch in
-    let asked : line_of raw ≡ cond r Report Unknown =
-    ap (λ (t : Bool). cond t Long (cond (says (codes "report") raw) Report Unknown)) (not_long raw whole.short)
-    ∙ ap (λ (t : Bool). cond t Report Unknown) (says_raw (codes "report") line cr whole.marked ∙ report) in
+    let asked : line_of raw ≡ line_of_words (slice_split is_space line) =
+    ap (λ (t : Bool). cond t Long (line_of_words (slice_split is_space (bare raw)))) (not_long raw whole.short)
+    ∙ ap (λ (l : List ℕ). line_of_words (slice_split is_space l)) (bare_raw line cr whole.marked) in
     let P : Line → Type 0 = λ l. Passes None (Ask l ∷ []) None old left new left' in
     subst P asked (pass_line None None (Ask (line_of raw) ∷ []) raw old left new left' (step_line raw some isnt) whole.given ends)
 
 pub pass_word : (line : List ℕ) (cr : Bool) (old : Reading) (left : List ℕ) (new : Reading) (left' : List ℕ) → IsWhole line cr old left new left' → (old.ended ≡ true → new.ended ≡ true) → PassesAny (word_of line) old left new left'
-pass_word line cr old left new left' whole ends =
-    word_by (bytes_eq line []) (bytes_eq line (codes "batch")) (bytes_eq line (codes "report")) line cr old left new left' refl refl refl whole ends
+pass_word line cr old left new left' whole ends = word_by (bytes_eq line []) (bytes_eq line (codes "batch")) line cr old left new left' refl refl whole ends
 
 pub pass_long : (old : Reading) (left : List ℕ) (new : Reading) (left' : List ℕ) → IsLongLine old left new left' → (old.ended ≡ true → new.ended ≡ true) → Passes None (Ask Long ∷ []) None old left new left'
 pass_long old left new left' long ends =
     let raw = long.raw in
     let is : is_long raw ≡ true = grind (arith, nat_tests, long.long) in
-    let asked : line_of raw ≡ Long = ap (λ (t : Bool). cond t Long (cond (says (codes "report") raw) Report Unknown)) is in
+    let asked : line_of raw ≡ Long = ap (λ (t : Bool). cond t Long (line_of_words (slice_split is_space (bare raw)))) is in
     let P : Line → Type 0 = λ l. Passes None (Ask l ∷ []) None old left new left' in
     subst P asked
     (pass_line None None (Ask (line_of raw) ∷ []) raw old left new left'

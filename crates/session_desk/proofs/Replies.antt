@@ -1,9 +1,11 @@
 -- The answer to one request.
-use Rattle.std.proofs.Common.{◌≡◌, ◌⊎◌, inl, inr, ℕ, Bool, true, false, cond, List, ◌++◌, take, Result, refl, sym, ap, subst, ◌∙◌}
+use Rattle.std.proofs.Common.{◌≡◌, ◌⊎◌, inl, inr, ℕ, Bool, false, cond, List, ◌++◌, take, Result, refl, sym, ap, subst, ◌∙◌}
 use Rattle.std.specs.Prelude.{Option, None, Ok, Err, IfOk}
 use Rattle.std.specs.List.{list_any}
 use Rattle.std.proofs.lemmas.List.{append-nil}
 use Rattle.vec_record.specs.Held.{Rows}
+use Rattle.vec_record.specs.declared.change.Change.{Change}
+use Rattle.event_feed.specs.Meanings.{Slots}
 use Rattle.site_disk.specs.State.{SiteState, IsNow, Safe}
 use Rattle.site_disk.specs.Calls.{Speaks}
 use Rattle.site_disk.proofs.Moments.{start, after_say}
@@ -19,42 +21,42 @@ use Rattle.session_desk.specs.declared.requests.Asked as read
 use Rattle.session_desk.specs.declared.requests.Asked.TheVariants as asked
 use Rattle.session_desk.specs.Input.{is_long}
 use Rattle.session_desk.specs.Answers.{refusal_line}
-use Rattle.session_desk.specs.Session.{Request, Batch, Answer, batch_answer, refuses, body_of, rows_behind, batches_behind}
+use Rattle.session_desk.specs.Session.{Request, Batch, Answer, batch_answer, refuses, body_of}
 use Rattle.session_desk.specs.Asking.{IsAsked}
-use Rattle.session_desk.specs.Talks.{IsServing, session_of, answer_on, IsBehind, IsNextState, IsAnswered, Answering, IsReplying}
+use Rattle.session_desk.specs.Talks.{Desk, desk_of, desk_behind, IsServing, answer_on, IsStoreOf, IsGiven, IsAnswered, Answering, IsReplying}
 use Rattle.session_desk.proofs.Going.{safe_as}
 
 -- the answer to a batch that was read
-pub batch-answer-is : (w : State) (lines : List (List ℕ)) (body : List ℕ) → list_any is_long lines ≡ false → body ≡ body_of lines → answer_on w (Batch lines) ≡ batch_answer w.values (session_of w) (due w body)
-batch-answer-is w lines body short is =
-    ap (λ (b : Bool). cond b (refuses 18 None) (batch_answer w.values (session_of w) (due w (body_of lines)))) short
-    ∙ ap (λ (b : List ℕ). batch_answer w.values (session_of w) (due w b)) (sym is)
+batch-answer-is : (w : State) (slots : Slots) (lines : List (List ℕ)) (body : List ℕ) → list_any is_long lines ≡ false → body ≡ body_of lines → answer_on (desk_of w slots) (Batch lines) ≡ batch_answer w.values (desk_of w slots).state (due w body)
+batch-answer-is w slots lines body short is =
+    ap (λ (b : Bool). cond b (refuses 18 None) (batch_answer w.values (desk_of w slots).state (due w (body_of lines)))) short
+    ∙ ap (λ (b : List ℕ). batch_answer w.values (desk_of w slots).state (due w b)) (sym is)
 
 -- of what was read, with the lines of the request
-pub asked-lines : (lines : List (List ℕ)) (body : List ℕ) → IsAsked (asked.Batch body) (Batch lines) → (list_any is_long lines ≡ false) × (body ≡ body_of lines)
+asked-lines : (lines : List (List ℕ)) (body : List ℕ) → IsAsked (asked.Batch body) (Batch lines) → (list_any is_long lines ≡ false) × (body ≡ body_of lines)
 asked-lines lines body given =
     let e : given.0 ≡ lines = cc given.1 in
     (ap (list_any is_long) (sym e) ∙ given.2, given.3 ∙ ap body_of e)
 
--- an answer that refuses leaves the state
-pub same-state : (w next : State) (a : Answer) (n : ℕ) (p : Option ℕ) → a ≡ refuses n p → next ≡ w → IsNextState w a next
-same-state w next a n p is same = record {
-  values = ap (λ (s : State). s.values) same;
-  rows = ap (λ (s : State). s.rows) same ∙ ap (λ (x : Answer). rows_behind w.values w.rows x.accepted) (sym is);
-  batches = ap (λ (s : State). s.batches) same ∙ ap (λ (x : Answer). batches_behind w.batches x.accepted) (sym is);
-}
-
-pub refused-batch : (w next : State) (lines : List (List ℕ)) (body : List ℕ) (refusal : Refusal) (n : ℕ) (p : Option ℕ) (refused : Bool) (old mid new : List ℕ)
-    → IsAsked (asked.Batch body) (Batch lines) → due w body ≡ Err refusal → batch_answer w.values (session_of w) (Err refusal) ≡ refuses n p → next ≡ w → mid ≡ old → refused ≡ true
-    → new ≡ mid ++ refusal_line n p → IsAnswered w (Batch lines) refused next old new
-refused-batch w next lines body refusal n p refused old mid new given fault numbered same kept yes_it_is text =
+-- the answer that is due to a body, however it was worked out
+answer-due : (w : State) (slots : Slots) (lines : List (List ℕ)) (body : List ℕ) (r : Result (List Change) Refusal) → IsAsked (asked.Batch body) (Batch lines) → due w body ≡ r → answer_on (desk_of w slots) (Batch lines) ≡ batch_answer w.values (desk_of w slots).state r
+answer-due w slots lines body r given is =
     let at = asked-lines lines body given in
-    let is : answer_on w (Batch lines) ≡ refuses n p =
-    batch-answer-is w lines body at.0 at.1 ∙ ap (batch_answer w.values (session_of w)) fault ∙ numbered in
+    batch-answer-is w slots lines body at.0 at.1 ∙ ap (batch_answer w.values (desk_of w slots).state) is
+
+-- an answer that refuses leaves the desk
+pub refused-batch : (w next : State) (slots slots' : Slots) (lines : List (List ℕ)) (body : List ℕ) (refusal : Refusal) (n : ℕ) (p : Option ℕ) (refused : Bool) (old mid new : List ℕ)
+    → IsAsked (asked.Batch body) (Batch lines) → due w body ≡ Err refusal → batch_answer w.values (desk_of w slots).state (Err refusal) ≡ refuses n p → next ≡ w → slots' ≡ slots → mid ≡ old
+    → IsGiven (refuses n p) refused mid new → IsAnswered (desk_of w slots) (Batch lines) refused (desk_of next slots') old new
+refused-batch w next slots slots' lines body refusal n p refused old mid new given fault numbered same still kept said =
+    let d = desk_of w slots in
+    let is : answer_on d (Batch lines) ≡ refuses n p = answer-due w slots lines body (Err refusal) given fault ∙ numbered in
     record {
-      text = text ∙ ap (λ (t : List ℕ). t ++ refusal_line n p) kept ∙ ap (λ (x : Answer). old ++ x.text) (sym is);
-      refused_is = yes_it_is ∙ ap (λ (x : Answer). x.refused) (sym is);
-      state = same-state w next (answer_on w (Batch lines)) n p is same;
+      given = record {
+        text = said.text ∙ ap (λ (t : List ℕ). t ++ refusal_line n p) kept ∙ ap (λ (x : Answer). old ++ x.text) (sym is);
+        refused_is = said.refused_is ∙ ap (λ (x : Answer). x.refused) (sym is);
+      };
+      desk = ap (λ (s : State). desk_of s slots') same ∙ ap (desk_of w) still ∙ ap (desk_behind d) (sym is);
     }
 
 -- the one image of a warehouse that is at rest is its store
@@ -69,8 +71,8 @@ rest-store stores w a serving holds c left =
     subst C l.batches_are (subst B l.rows_are (subst A l.values_are store))
 
 -- a request that touches nothing
-pub quiet-answer : {A : Type 0} → LoadsAreStores → (w : State) (q : Request) (result : Result A Status) (a : SiteState) → IsNow a → IsServing w → Holds w.pages a → Answering w q result a a
-quiet-answer {A} stores w q result a now serving holds = record {
+pub quiet-answer : {A : Type 0} → LoadsAreStores → (w : State) (slots : Slots) (q : Request) (result : Result A Status) (a : SiteState) → IsNow a → IsServing w → Holds w.pages a → Answering (desk_of w slots) q result a a
+quiet-answer {A} stores w slots q result a now serving holds = record {
   safe = start now (λ c left. (refl, inl (rest-store stores w a serving holds c left)));
   unsaved = λ _ c left. rest-store stores w a serving holds c left;
 }
@@ -86,28 +88,23 @@ pub if-ok : {A E : Type 0} (r : Result A E) (P Q : A → Type 0) → IfOk r P �
 if-ok (Ok x) P Q given each = each x given
 if-ok (Err e) P Q given each = tt
 
--- behind an answer the store is the one that the next state is
-pub store-behind : LoadsAreStores → (w next : State) (a : Answer) (b : SiteState) → IsNextState w a next → IsServing next → Holds next.pages b → (c : List ℕ) → b.may_leave c → IsBehind w a c
-store-behind stores w next a b state serving holds c left =
-    let store = rest-store stores next b serving holds c left in
-    let A : Values → Type 0 = λ v. IsStore v next.rows next.batches c in
-    let B : Rows → Type 0 = λ r. IsStore w.values r next.batches c in
-    let C : ℕ → Type 0 = λ n. IsStore w.values (rows_behind w.values w.rows a.accepted) n c in
-    subst C state.batches (subst B state.rows (subst A state.values store))
+-- the one image of a site that is at rest is the store of the desk
+pub desk-store : LoadsAreStores → (w : State) (slots : Slots) (d : Desk) (b : SiteState) → desk_of w slots ≡ d → IsServing w → Holds w.pages b → (c : List ℕ) → b.may_leave c → IsStoreOf d c
+desk-store stores w slots d b is serving holds c left = let P : Desk → Type 0 = λ x. IsStoreOf x c in subst P is (rest-store stores w b serving holds c left)
 
-replying-quiet : (w : State) (q : Request) (a : SiteState) (s i : List ℕ) → s ≡ a.said → IsBefore w i ⊎ IsBehind w (answer_on w q) i → IsReplying w q a s i
-replying-quiet w q a s i is (inl before) = record { n = 0; prefix = is ∙ sym (append-nil a.said); image_is = inl (refl, before) }
-replying-quiet w q a s i is (inr behind) = record { n = 0; prefix = is ∙ sym (append-nil a.said); image_is = inr behind }
+replying-quiet : (d : Desk) (q : Request) (a : SiteState) (s i : List ℕ) → s ≡ a.said → IsStoreOf d i ⊎ IsStoreOf (desk_behind d (answer_on d q)) i → IsReplying d q a s i
+replying-quiet d q a s i is (inl before) = record { n = 0; prefix = is ∙ sym (append-nil a.said); image_is = inl (refl, before) }
+replying-quiet d q a s i is (inr behind) = record { n = 0; prefix = is ∙ sym (append-nil a.said); image_is = inr behind }
 
-pub answered-quietly : {A : Type 0} {r : Result A Status} (w : State) (q : Request) (a b : SiteState) → Answering w q r a b → Safe a b (IsReplying w q a)
-answered-quietly {A} {r} w q a b answering = safe_as answering.safe (λ s i at. replying-quiet w q a s i at.0 at.1)
+pub answered-quietly : {A : Type 0} {r : Result A Status} (d : Desk) (q : Request) (a b : SiteState) → Answering d q r a b → Safe a b (IsReplying d q a)
+answered-quietly {A} {r} d q a b answering = safe_as answering.safe (λ s i at. replying-quiet d q a s i at.0 at.1)
 
 -- the answer is said
-pub replies : {A E : Type 0} {r : Result A Status} {said : Result Unit E} → LoadsAreStores → (w next : State) (q : Request) (text : List ℕ) (a b c : SiteState)
-    → Answering w q r a b → b.said ≡ a.said → IsServing next → Holds next.pages b → IsNextState w (answer_on w q) next → text ≡ (answer_on w q).text → Speaks text said b c → Safe a c (IsReplying w q a)
-replies {A} {E} {r} {said} stores w next q text a b c answering kept serving holds state is speaks =
-    after_say (answered-quietly w q a b answering) speaks (λ n i left. record {
+pub replies : {A E : Type 0} {r : Result A Status} {said : Result Unit E} → LoadsAreStores → (d : Desk) (next : State) (slots : Slots) (q : Request) (text : List ℕ) (a b c : SiteState)
+    → Answering d q r a b → b.said ≡ a.said → IsServing next → Holds next.pages b → desk_of next slots ≡ desk_behind d (answer_on d q) → text ≡ (answer_on d q).text → Speaks text said b c → Safe a c (IsReplying d q a)
+replies {A} {E} {r} {said} stores d next slots q text a b c answering kept serving holds desk is speaks =
+    after_say (answered-quietly d q a b answering) speaks (λ n i left. record {
       n = n;
       prefix = ap (λ (s : List ℕ). s ++ take n text) kept ∙ ap (λ (t : List ℕ). a.said ++ take n t) is;
-      image_is = inr (store-behind stores w next (answer_on w q) b state serving holds i left);
+      image_is = inr (desk-store stores next slots (desk_behind d (answer_on d q)) b desk serving holds i left);
     })

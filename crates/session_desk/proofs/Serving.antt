@@ -6,52 +6,57 @@ use Rattle.std.proofs.Math.Seq.{take-append_seam}
 use Rattle.vec_record.specs.declared.change.Change.{Change}
 use Rattle.vec_record.specs.declared.kind.MetricKind.TheVariants as kind
 use Rattle.vec_record.specs.Held.{Rows}
-use Rattle.site_disk.specs.State.{SiteState, Safe}
+use Rattle.site_disk.specs.State.{SiteState, IsNow, Safe}
+use Rattle.site_disk.proofs.Moments.{start}
 use Rattle.site_disk.specs.Causes.{Rose}
 use Rattle.page_gate.specs.Gate.{opening, Opens}
 use Rattle.page_gate.specs.Promises.{IsAsWas, IsRefusal}
 use Rattle.page_gate.specs.declared.fault.OpenFault.{OpenFault}
 use Rattle.page_gate.specs.declared.fault.OpenFault.TheVariants.{Blank, Foreign, Damaged, SiteFault, Memory}
 use Rattle.page_layout.specs.Heads.{Values, HeadValue}
+use Rattle.event_feed.specs.Meanings.{Slots}
 use Rattle.store_image.specs.declared.fault.StoreFault as store
 use Rattle.store_image.specs.declared.fault.StoreFault.TheVariants as store_fault
 use Rattle.store_image.specs.Images.{Image}
 use Rattle.store_image.specs.Loading.{and_then, values_of_head, head_in_pages, params_in_pages, load_of, Fails}
-use Rattle.store_image.specs.Stores.{IsStore, IsSound, SameOpeningsAreAlike, LoadsAreStores, refusal_on, records_on, batches_on, verdict, refusal_of}
+use Rattle.store_image.specs.Stores.{IsStore, IsSound, SameOpeningsAreAlike, LoadsAreStores, refusal_on, batches_on, verdict, refusal_of}
 use Rattle.warehouse_core.specs.States.{State}
 use Rattle.session_desk.specs.declared.status.Status.{Status}
 use Rattle.session_desk.specs.declared.status.Status.TheVariants as status
 use Rattle.session_desk.specs.Statuses.{is_fault}
 use Rattle.session_desk.specs.Moments.{IsSaying}
-use Rattle.session_desk.specs.Session.{Answer, Request, state_with, answers, text_of, accepted_by, acked, rows_after_all, requests_of, whole_requests}
+use Rattle.session_desk.specs.Session.{Answer, Request, SessionState, answers, text_of, accepted_by, acked, rows_after_all, requests_of, whole_requests}
 use Rattle.session_desk.specs.Courses.{Course, course_text, course_by, begun, session, values_on, state_on, accepted}
-use Rattle.session_desk.specs.Headline.{IsStoreAfter, IsMoment, SaysAll, SaysWhole, KeepsAll, IsSettled, IsUntouched}
-use Rattle.session_desk.specs.Talks.{answers_on, talk, IsStoreAt, IsTalk, Concludes, IsKept, IsCutOff, IsEven}
+use Rattle.session_desk.specs.Headline.{IsStoreAfter, IsMoment, SaysAll, SaysWhole, KeepsAll, IsSettled, IsUntouched, Serves}
+use Rattle.session_desk.specs.Talks.{desk_of, answers_on, talk, IsStoreAt, IsTalk, Concludes, IsKept, IsCutOff, IsEven}
 use Rattle.session_desk.specs.Opened.{is_outside, fault_of, refusal_course, IsLoaded}
 use Rattle.session_desk.proofs.LifeLaws.{acked-none}
 use Rattle.session_desk.proofs.Going.{safe_as, then_safe, then_said}
 
 -- a session over a content that is a store
-begun-by : (fault : Option OpenFault) (c input : List ℕ) → fault ≡ None → course_by fault c input ≡ begun (answers (values_on c) (state_on c) (requests_of input)) input
-begun-by fault c input is = ap (λ (f : Option OpenFault). course_by f c input) is
+begun-by : (fault : Option OpenFault) (c : List ℕ) (watchers : Slots) (input : List ℕ) → fault ≡ None → course_by fault c watchers input ≡ begun (answers (values_on c) (state_on c watchers) (requests_of input)) input
+begun-by fault c watchers input is = ap (λ (f : Option OpenFault). course_by f c watchers input) is
 
 values-are : (w : State) (c : List ℕ) → IsStore w.values w.rows w.batches c → values_on c ≡ w.values
 values-are w c store = ap (λ (o : Option Values). unwrap_or o (record { metric = kind.L1; dim = 0; eps = 0; minpts = 0; cap = 0 })) store.params
 
-answers-are : (w : State) (c : List ℕ) (qs : List Request) → IsStore w.values w.rows w.batches c → answers (values_on c) (state_on c) qs ≡ answers_on w qs
-answers-are w c qs store =
-    ap (λ (v : Values). answers v (state_on c) qs) (values-are w c store)
-    ∙ ap (λ (r : Rows). answers w.values (state_with r (batches_on c)) qs) store.records
-    ∙ ap (λ (n : ℕ). answers w.values (state_with w.rows n) qs) store.batches_are
+abbrev state_of : Rows → ℕ → Slots → SessionState
+state_of rows batches slots = record { rows = rows; batches = batches; slots = slots }
 
-session-is : (w : State) (c input : List ℕ) → IsStore w.values w.rows w.batches c → session c input ≡ talk w input
+answers-are : (w : State) (watchers : Slots) (c : List ℕ) (qs : List Request) → IsStore w.values w.rows w.batches c → answers (values_on c) (state_on c watchers) qs ≡ answers_on (desk_of w watchers) qs
+answers-are w watchers c qs store =
+    ap (λ (v : Values). answers v (state_on c watchers) qs) (values-are w c store)
+    ∙ ap (λ (r : Rows). answers w.values (state_of r (batches_on c) watchers) qs) store.records
+    ∙ ap (λ (n : ℕ). answers w.values (state_of w.rows n watchers) qs) store.batches_are
+
+session-is : (w : State) (watchers : Slots) (c input : List ℕ) → IsStore w.values w.rows w.batches c → session c watchers input ≡ talk (desk_of w watchers) input
 unfolding session
-session-is w c input store = begun-by (refusal_on c) c input store.opens ∙ ap (λ (l : List Answer). begun l input) (answers-are w c (requests_of input) store)
+session-is w watchers c input store = begun-by (refusal_on c) c watchers input store.opens ∙ ap (λ (l : List Answer). begun l input) (answers-are w watchers c (requests_of input) store)
 
-store-after : (w : State) (c input : List ℕ) (m : ℕ) (image : List ℕ) → IsStore w.values w.rows w.batches c → IsStoreAt w input m image → IsStoreAfter c input m image
-store-after w c input m image store at =
-    let same = session-is w c input store in
-    let batches : accepted_by (talk w input).answers ≡ accepted c input = ap (λ (s : Course). accepted_by s.answers) (sym same) in
+store-after : (w : State) (watchers : Slots) (c input : List ℕ) (m : ℕ) (image : List ℕ) → IsStore w.values w.rows w.batches c → IsStoreAt (desk_of w watchers) input m image → IsStoreAfter c watchers input m image
+store-after w watchers c input m image store at =
+    let same = session-is w watchers c input store in
+    let batches : accepted_by (talk (desk_of w watchers) input).answers ≡ accepted c watchers input = ap (λ (s : Course). accepted_by s.answers) (sym same) in
     let P : List (List Change) → Type 0 = λ l. m ≤ length l in
     record {
       some = subst P batches at.some;
@@ -60,81 +65,81 @@ store-after w c input m image store at =
       records =
           at.store.records
           ∙ ap (λ (l : List (List Change)). rows_after_all w.values w.rows (take m l)) batches
-          ∙ ap (λ (v : Values). rows_after_all v w.rows (take m (accepted c input))) (sym (values-are w c store))
-          ∙ ap (λ (r : Rows). rows_after_all (values_on c) r (take m (accepted c input))) (sym store.records);
+          ∙ ap (λ (v : Values). rows_after_all v w.rows (take m (accepted c watchers input))) (sym (values-are w c store))
+          ∙ ap (λ (r : Rows). rows_after_all (values_on c) r (take m (accepted c watchers input))) (sym store.records);
       batches = at.store.batches_are ∙ ap (λ (n : ℕ). n + m) (sym store.batches_are);
     }
 
 -- a moment of the session over the warehouse is one over the content
-talk-moment : (w : State) (a b : SiteState) (input : List ℕ) → IsStore w.values w.rows w.batches a.content → b.said ≡ a.said → (s i : List ℕ) → IsTalk w input b s i → IsMoment input a s i
-talk-moment w a b input store quiet s i at =
-    let same = sym (session-is w a.content input store) in
+talk-moment : (w : State) (watchers : Slots) (a b : SiteState) (input : List ℕ) → IsStore w.values w.rows w.batches a.content → b.said ≡ a.said → (s i : List ℕ) → IsTalk (desk_of w watchers) input b s i → IsMoment watchers input a s i
+talk-moment w watchers a b input store quiet s i at =
+    let same = sym (session-is w watchers a.content input store) in
     let P : Course → Type 0 = λ x. at.k ≤ length (course_text x) in
     let H : Course → Type 0 = λ x. acked at.k x.answers ≤ at.m in
     let F : Course → Type 0 = λ x. at.m ≤ acked at.k x.answers + 1 in
     record {
       k = at.k;
       within = subst P same at.within;
-      prefix = at.prefix ∙ ap (λ (t : List ℕ). t ++ take at.k (course_text (talk w input))) quiet ∙ ap (λ (x : Course). a.said ++ take at.k (course_text x)) same;
-      kept = λ sound. inr (record { m = at.m; store = store-after w a.content input at.m i store at.store; holds = subst H same at.holds; few = subst F same at.few });
+      prefix = at.prefix ∙ ap (λ (t : List ℕ). t ++ take at.k (course_text (talk (desk_of w watchers) input))) quiet ∙ ap (λ (x : Course). a.said ++ take at.k (course_text x)) same;
+      kept = λ sound. inr (record { m = at.m; store = store-after w watchers a.content input at.m i store at.store; holds = subst H same at.holds; few = subst F same at.few });
     }
 
 -- an image that opens as the content does holds no batch of the session
-first-store : SameOpeningsAreAlike → (c input image : List ℕ) → IsSound c → opening image ≡ opening c → IsStoreAfter c input 0 image
-first-store alike c input image sound same =
+first-store : SameOpeningsAreAlike → (watchers : Slots) (c input image : List ℕ) → IsSound c → opening image ≡ opening c → IsStoreAfter c watchers input 0 image
+first-store alike watchers c input image sound same =
     let all = alike image c same in
     record { some = omega arith; sound = all.sound.1 sound; params = all.params; records = all.records; batches = all.batches ∙ (let e : batches_on c ≡ batches_on c + 0 = omega arith in e) }
 
-opening-moment : SameOpeningsAreAlike → (a : SiteState) (input s i : List ℕ) → IsAsWas a s i → IsMoment input a s i
-opening-moment alike a input s i at =
-    let none = acked-none a.content input in
+opening-moment : SameOpeningsAreAlike → (watchers : Slots) (a : SiteState) (input s i : List ℕ) → IsAsWas a s i → IsMoment watchers input a s i
+opening-moment alike watchers a input s i at =
+    let none = acked-none a.content watchers input in
     record {
       k = 0;
       within = omega arith;
       prefix = at.0 ∙ sym (append-nil a.said);
       kept = λ sound. ⊎_elim (λ left. inl (at.0, left))
-          (λ same. inr (record { m = 0; store = first-store alike a.content input i sound same; holds = omega (arith, none); few = omega arith }))
+          (λ same. inr (record { m = 0; store = first-store alike watchers a.content input i sound same; holds = omega (arith, none); few = omega arith }))
           at.1;
     }
 
-pub opening-moments : SameOpeningsAreAlike → (a b : SiteState) (input : List ℕ) → Safe a b (IsAsWas a) → Safe a b (IsMoment input a)
-opening-moments alike a b input safe = safe_as safe (λ s i at. opening-moment alike a input s i at)
+pub opening-moments : SameOpeningsAreAlike → (watchers : Slots) (a b : SiteState) (input : List ℕ) → Safe a b (IsAsWas a) → Safe a b (IsMoment watchers input a)
+opening-moments alike watchers a b input safe = safe_as safe (λ s i at. opening-moment alike watchers a input s i at)
 
 -- a store that opens: the clauses of the session
-pub serves-moments : SameOpeningsAreAlike → (w : State) (a b c : SiteState) (input : List ℕ) → IsStore w.values w.rows w.batches a.content → Safe a b (IsAsWas a) → b.said ≡ a.said → Safe b c (IsTalk w input b) → Safe a c (IsMoment input a)
-serves-moments alike w a b c input store safe quiet talked = then_safe (opening-moments alike a b input safe) (safe_as talked (λ s i at. talk-moment w a b input store quiet s i at))
+pub serves-moments : SameOpeningsAreAlike → (w : State) (watchers : Slots) (a b c : SiteState) (input : List ℕ) → IsStore w.values w.rows w.batches a.content → Safe a b (IsAsWas a) → b.said ≡ a.said → Safe b c (IsTalk (desk_of w watchers) input b) → Safe a c (IsMoment watchers input a)
+serves-moments alike w watchers a b c input store safe quiet talked = then_safe (opening-moments alike watchers a b input safe) (safe_as talked (λ s i at. talk-moment w watchers a b input store quiet s i at))
 
-pub serves-all : (w : State) (a b c : SiteState) (input : List ℕ) (result : Status) → IsStore w.values w.rows w.batches a.content → b.said ≡ a.said → Concludes w input result b c → SaysAll input result a c
-serves-all w a b c input result store quiet done =
-    let same = sym (session-is w a.content input store) in
+pub serves-all : (w : State) (watchers : Slots) (a b c : SiteState) (input : List ℕ) (result : Status) → IsStore w.values w.rows w.batches a.content → b.said ≡ a.said → Concludes (desk_of w watchers) input result b c → SaysAll watchers input result a c
+serves-all w watchers a b c input result store quiet done =
+    let same = sym (session-is w watchers a.content input store) in
     record {
-      text = done.text ∙ ap (λ (t : List ℕ). t ++ course_text (talk w input)) quiet ∙ ap (λ (x : Course). a.said ++ course_text x) same;
+      text = done.text ∙ ap (λ (t : List ℕ). t ++ course_text (talk (desk_of w watchers) input)) quiet ∙ ap (λ (x : Course). a.said ++ course_text x) same;
       status = done.status ∙ ap (λ (x : Course). x.status) same;
     }
 
-pub serves-whole : (w : State) (a b c : SiteState) (input left : List ℕ) → IsStore w.values w.rows w.batches a.content → b.said ≡ a.said → IsCutOff w input left b c → SaysWhole input left a c
-serves-whole w a b c input left store quiet cut = record {
+pub serves-whole : (w : State) (watchers : Slots) (a b c : SiteState) (input left : List ℕ) → IsStore w.values w.rows w.batches a.content → b.said ≡ a.said → IsCutOff (desk_of w watchers) input left b c → SaysWhole watchers input left a c
+serves-whole w watchers a b c input left store quiet cut = record {
   front = cut.front;
   gave = cut.gave;
-  text = cut.text ∙ ap (λ (t : List ℕ). t ++ text_of (answers_on w (whole_requests cut.front))) quiet ∙ ap (λ (l : List Answer). a.said ++ text_of l) (sym (answers-are w a.content (whole_requests cut.front) store));
+  text = cut.text ∙ ap (λ (t : List ℕ). t ++ text_of (answers_on (desk_of w watchers) (whole_requests cut.front))) quiet ∙ ap (λ (l : List Answer). a.said ++ text_of l) (sym (answers-are w watchers a.content (whole_requests cut.front) store));
 }
 
-pub serves-kept : (w : State) (a b c : SiteState) (input : List ℕ) → IsStore w.values w.rows w.batches a.content → IsKept w input c → KeepsAll input a c
-serves-kept w a b c input store kept =
-    let batches : accepted_by (talk w input).answers ≡ accepted a.content input = ap (λ (s : Course). accepted_by s.answers) (sym (session-is w a.content input store)) in
-    let P : List (List Change) → Type 0 = λ l. IsStoreAfter a.content input (length l) c.content in
-    record { only = kept.only; store = subst P batches (store-after w a.content input (length (accepted_by (talk w input).answers)) c.content store kept.store) }
+pub serves-kept : (w : State) (watchers : Slots) (a b c : SiteState) (input : List ℕ) → IsStore w.values w.rows w.batches a.content → IsKept (desk_of w watchers) input c → KeepsAll watchers input a c
+serves-kept w watchers a b c input store kept =
+    let batches : accepted_by (talk (desk_of w watchers) input).answers ≡ accepted a.content watchers input = ap (λ (s : Course). accepted_by s.answers) (sym (session-is w watchers a.content input store)) in
+    let P : List (List Change) → Type 0 = λ l. IsStoreAfter a.content watchers input (length l) c.content in
+    record { only = kept.only; store = subst P batches (store-after w watchers a.content input (length (accepted_by (talk (desk_of w watchers) input).answers)) c.content store kept.store) }
 
-pub serves-settled : (w : State) (a b c : SiteState) (input : List ℕ) → IsStore w.values w.rows w.batches a.content → b.said ≡ a.said → IsEven w input b c → IsSettled input a c
-serves-settled w a b c input store quiet even image left =
-    let same = sym (session-is w a.content input store) in
+pub serves-settled : (w : State) (watchers : Slots) (a b c : SiteState) (input : List ℕ) → IsStore w.values w.rows w.batches a.content → b.said ≡ a.said → IsEven (desk_of w watchers) input b c → IsSettled watchers input a c
+serves-settled w watchers a b c input store quiet even image left =
+    let same = sym (session-is w watchers a.content input store) in
     let P : Course → Type 0 = λ x. even.k ≤ length (course_text x) in
-    let Q : Course → Type 0 = λ x. IsStoreAfter a.content input (acked even.k x.answers) image in
+    let Q : Course → Type 0 = λ x. IsStoreAfter a.content watchers input (acked even.k x.answers) image in
     inr (
       even.k,
       subst P same even.within,
-      even.prefix ∙ ap (λ (t : List ℕ). t ++ take even.k (course_text (talk w input))) quiet ∙ ap (λ (x : Course). a.said ++ take even.k (course_text x)) same,
-      subst Q same (store-after w a.content input (acked even.k (talk w input).answers) image store (even.stores image left)),
+      even.prefix ∙ ap (λ (t : List ℕ). t ++ take even.k (course_text (talk (desk_of w watchers) input))) quiet ∙ ap (λ (x : Course). a.said ++ take even.k (course_text x)) same,
+      subst Q same (store-after w watchers a.content input (acked even.k (talk (desk_of w watchers) input).answers) image store (even.stores image left)),
     )
 
 -- where no count rose, the status is the session's or memory was wanting
@@ -152,12 +157,12 @@ completes status.Exists due source site is by_site by_source no_source no_site =
 completes status.Differs due source site is by_site by_source no_source no_site = inl (is refl)
 
 -- a content that a fault refuses
-same-refusal : (fault : OpenFault) (c input : List ℕ) → course_by (Some fault) c input ≡ refusal_course fault
-same-refusal Blank c input = refl
-same-refusal Foreign c input = refl
-same-refusal (Damaged page offset) c input = refl
-same-refusal SiteFault c input = refl
-same-refusal Memory c input = refl
+same-refusal : (fault : OpenFault) (c : List ℕ) (watchers : Slots) (input : List ℕ) → course_by (Some fault) c watchers input ≡ refusal_course fault
+same-refusal Blank c watchers input = refl
+same-refusal Foreign c watchers input = refl
+same-refusal (Damaged page offset) c watchers input = refl
+same-refusal SiteFault c watchers input = refl
+same-refusal Memory c watchers input = refl
 
 no-answers : (fault : OpenFault) → (refusal_course fault).answers ≡ []
 no-answers Blank = refl
@@ -166,53 +171,73 @@ no-answers (Damaged page offset) = refl
 no-answers SiteFault = refl
 no-answers Memory = refl
 
-refused-session : (fault : OpenFault) (c input : List ℕ) → refusal_on c ≡ Some fault → session c input ≡ refusal_course fault
+refused-session : (fault : OpenFault) (c : List ℕ) (watchers : Slots) (input : List ℕ) → refusal_on c ≡ Some fault → session c watchers input ≡ refusal_course fault
 unfolding session
-refused-session fault c input is = ap (λ (f : Option OpenFault). course_by f c input) is ∙ same-refusal fault c input
+refused-session fault c watchers input is = ap (λ (f : Option OpenFault). course_by f c watchers input) is ∙ same-refusal fault c watchers input
 
-refused-text : (fault : OpenFault) (c input : List ℕ) → refusal_on c ≡ Some fault → course_text (session c input) ≡ (refusal_course fault).ending
-refused-text fault c input is = ap course_text (refused-session fault c input is) ∙ ap (λ (l : List Answer). text_of l ++ (refusal_course fault).ending) (no-answers fault)
+refused-text : (fault : OpenFault) (c : List ℕ) (watchers : Slots) (input : List ℕ) → refusal_on c ≡ Some fault → course_text (session c watchers input) ≡ (refusal_course fault).ending
+refused-text fault c watchers input is = ap course_text (refused-session fault c watchers input is) ∙ ap (λ (l : List Answer). text_of l ++ (refusal_course fault).ending) (no-answers fault)
 
-pub refuses-all : (fault : OpenFault) (a b c : SiteState) (input : List ℕ) (result : Status) → refusal_on a.content ≡ Some fault → b.said ≡ a.said → c.said ≡ b.said ++ (refusal_course fault).ending → result ≡ (refusal_course fault).status → SaysAll input result a c
-refuses-all fault a b c input result is quiet said status-is = record {
-  text = said ∙ ap (λ (t : List ℕ). t ++ (refusal_course fault).ending) quiet ∙ ap (λ (t : List ℕ). a.said ++ t) (sym (refused-text fault a.content input is));
-  status = status-is ∙ ap (λ (x : Course). x.status) (sym (refused-session fault a.content input is));
+pub refuses-all : (fault : OpenFault) (watchers : Slots) (a b c : SiteState) (input : List ℕ) (result : Status) → refusal_on a.content ≡ Some fault → b.said ≡ a.said → c.said ≡ b.said ++ (refusal_course fault).ending → result ≡ (refusal_course fault).status → SaysAll watchers input result a c
+refuses-all fault watchers a b c input result is quiet said status-is = record {
+  text = said ∙ ap (λ (t : List ℕ). t ++ (refusal_course fault).ending) quiet ∙ ap (λ (t : List ℕ). a.said ++ t) (sym (refused-text fault a.content watchers input is));
+  status = status-is ∙ ap (λ (x : Course). x.status) (sym (refused-session fault a.content watchers input is));
 }
 
-refusal-moment : SameOpeningsAreAlike → (fault : OpenFault) (a : SiteState) (input s i : List ℕ) (n : ℕ) → refusal_on a.content ≡ Some fault → s ≡ a.said ++ take n (refusal_course fault).ending → opening i ≡ opening a.content → IsMoment input a s i
-refusal-moment alike fault a input s i n is prefix same =
+refusal-moment : SameOpeningsAreAlike → (fault : OpenFault) (watchers : Slots) (a : SiteState) (input s i : List ℕ) (n : ℕ) → refusal_on a.content ≡ Some fault → s ≡ a.said ++ take n (refusal_course fault).ending → opening i ≡ opening a.content → IsMoment watchers input a s i
+refusal-moment alike fault watchers a input s i n is prefix same =
     let line = (refusal_course fault).ending in
-    let text = refused-text fault a.content input is in
+    let text = refused-text fault a.content watchers input is in
     let k : ℕ = length (take n line) in
     let cut : take k line ≡ take n line = ap (take k) (sym (take-append-drop n line)) ∙ take-append_seam (take n line) (drop n line) in
     let long : length line ≡ k + length (drop n line) = ap (λ (l : List ℕ). length l) (sym (take-append-drop n line)) ∙ length-append (take n line) (drop n line) in
-    let whole : length (course_text (session a.content input)) ≡ length line = ap (λ (l : List ℕ). length l) text in
-    let receipts : acked k (session a.content input).answers ≡ 0 = ap (acked k) (ap (λ (x : Course). x.answers) (refused-session fault a.content input is) ∙ no-answers fault) in
+    let whole : length (course_text (session a.content watchers input)) ≡ length line = ap (λ (l : List ℕ). length l) text in
+    let receipts : acked k (session a.content watchers input).answers ≡ 0 = ap (acked k) (ap (λ (x : Course). x.answers) (refused-session fault a.content watchers input is) ∙ no-answers fault) in
     record {
       k = k;
       within = omega (arith, long, whole);
       prefix = prefix ∙ ap (λ (l : List ℕ). a.said ++ l) (sym cut) ∙ ap (λ (l : List ℕ). a.said ++ take k l) (sym text);
-      kept = λ sound. inr (record { m = 0; store = first-store alike a.content input i sound same; holds = omega (arith, receipts); few = omega arith });
+      kept = λ sound. inr (record { m = 0; store = first-store alike watchers a.content input i sound same; holds = omega (arith, receipts); few = omega arith });
     }
 
 -- the moments of a refusal that is said
-pub refuses-moments : SameOpeningsAreAlike → (fault : OpenFault) (a b c : SiteState) (input : List ℕ) → refusal_on a.content ≡ Some fault → Safe a b (IsAsWas a) → b.said ≡ a.said → ((i : List ℕ) → b.may_leave i → opening i ≡ opening a.content)
-    → Safe b c (IsSaying b (refusal_course fault).ending) → Safe a c (IsMoment input a)
-refuses-moments alike fault a b c input is safe quiet images say =
-    then_said (refusal_course fault).ending (opening-moments alike a b input safe) say
-    (λ n i left. refusal-moment alike fault a input (b.said ++ take n (refusal_course fault).ending) i n is (ap (λ (t : List ℕ). t ++ take n (refusal_course fault).ending) quiet) (images i left))
+pub refuses-moments : SameOpeningsAreAlike → (fault : OpenFault) (watchers : Slots) (a b c : SiteState) (input : List ℕ) → refusal_on a.content ≡ Some fault → Safe a b (IsAsWas a) → b.said ≡ a.said → ((i : List ℕ) → b.may_leave i → opening i ≡ opening a.content)
+    → Safe b c (IsSaying b (refusal_course fault).ending) → Safe a c (IsMoment watchers input a)
+refuses-moments alike fault watchers a b c input is safe quiet images say =
+    then_said (refusal_course fault).ending (opening-moments alike watchers a b input safe) say
+    (λ n i left. refusal-moment alike fault watchers a input (b.said ++ take n (refusal_course fault).ending) i n is (ap (λ (t : List ℕ). t ++ take n (refusal_course fault).ending) quiet) (images i left))
 
 pub untouched-moments : (a b c : SiteState) (text : List ℕ) → Safe a b (IsAsWas a) → Safe b c (IsSaying b text) → Safe a c (IsUntouched a)
 untouched-moments a b c text safe say = then_said text (safe_as safe (λ s i at. at.1)) say (λ n i left. (safe.now i left).1)
 
 -- want of memory at the opening
-pub opening-settled : SameOpeningsAreAlike → (a b : SiteState) (input : List ℕ) → IsSound a.content → Safe a b (IsAsWas a) → b.said ≡ a.said → IsSettled input a b
-opening-settled alike a b input sound safe quiet image left =
-    let none = acked-none a.content input in
-    let P : ℕ → Type 0 = λ m. IsStoreAfter a.content input m image in
+pub opening-settled : SameOpeningsAreAlike → (watchers : Slots) (a b : SiteState) (input : List ℕ) → IsSound a.content → Safe a b (IsAsWas a) → b.said ≡ a.said → IsSettled watchers input a b
+opening-settled alike watchers a b input sound safe quiet image left =
+    let none = acked-none a.content watchers input in
+    let P : ℕ → Type 0 = λ m. IsStoreAfter a.content watchers input m image in
     ⊎_elim (λ was. inl (quiet, was))
-    (λ same. inr (0, omega arith, quiet ∙ sym (append-nil a.said), subst P (sym none) (first-store alike a.content input image sound same)))
+    (λ same. inr (0, omega arith, quiet ∙ sym (append-nil a.said), subst P (sym none) (first-store alike watchers a.content input image sound same)))
     (safe.now image left).1
+
+-- a run that ends for want of memory before it has done anything
+never-memory : {P : Type 0} → (status.Memory ≡ status.Fine) ⊎ ((status.Memory ≡ status.Refused) ⊎ (status.Memory ≡ status.TooLong)) → P
+never-memory {P} (inl fine) = absurd (cc fine)
+never-memory {P} (inr (inl refused)) = absurd (cc refused)
+never-memory {P} (inr (inr long)) = absurd (cc long)
+
+pub serves-nothing : SameOpeningsAreAlike → (watchers : Slots) (input left : List ℕ) (a : SiteState) → IsNow a → Serves watchers input left status.Memory a a
+serves-nothing alike watchers input left a now =
+    let was : Safe a a (IsAsWas a) = start now (λ c leaves. (refl, inl leaves)) in
+    record {
+      answers = λ fine. absurd (cc fine);
+      whole = λ fault. absurd (cc fault);
+      crash = opening-moments alike watchers a a input was;
+      end = λ ended. never-memory ended;
+      settled = λ sound fault. opening-settled alike watchers a a input sound was refl;
+    }
+
+pub untouched-still : (a : SiteState) → IsNow a → Safe a a (IsUntouched a)
+untouched-still a now = start now (λ c leaves. inl leaves)
 
 pub outside : (fault : OpenFault) → (is_outside fault ≡ true) ⊎ (is_outside fault ≡ false)
 outside Blank = inr refl

@@ -9,10 +9,8 @@ use Rattle.std.proofs.lemmas.List.Folds.{list_any-append}
 use Rattle.vec_record.specs.declared.change.Change.{Change}
 use Rattle.vec_record.specs.Held.{Rows}
 use Rattle.page_layout.specs.Heads.{Values}
-use Rattle.warehouse_core.specs.Batches.{rows_after}
-use Rattle.warehouse_core.specs.States.{State}
-use Rattle.session_desk.specs.Session.{Request, Answer, state_with, answer, behind, answers, text_of, in_list, accepted_by, acked, rows_behind, batches_behind, rows_after_all}
-use Rattle.session_desk.specs.Talks.{session_of, answer_on, answers_on, IsNextState, IsStateAfter}
+use Rattle.session_desk.specs.Session.{Request, Answer, text_of, in_list, accepted_by, acked, rows_behind, batches_behind, rows_after_all}
+use Rattle.session_desk.specs.Talks.{Desk, answer_on, answers_on, desk_behind, desk_after}
 
 pub text-append : (d e : List Answer) → text_of (d ++ e) ≡ text_of d ++ text_of e
 text-append d e = flat_map-append (λ (a : Answer). a.text) d e
@@ -28,70 +26,46 @@ batches-first : (n : ℕ) (o : Option (List Change)) (more : List (List Change))
 batches-first n None more = refl
 batches-first n (Some changes) more = omega arith
 
-pub rows-append : (v : Values) (rows : Rows) (xs ys : List (List Change)) → rows_after_all v rows (xs ++ ys) ≡ rows_after_all v (rows_after_all v rows xs) ys
-rows-append v rows [] ys = refl
-rows-append v rows (x ∷ xs) ys = rows-append v (rows_after v rows x) xs ys
+-- the answers to more requests are those over the desk behind the first
+pub answers-split : (d : Desk) (asked rest : List Request) → answers_on d (asked ++ rest) ≡ answers_on d asked ++ answers_on (desk_after d asked) rest
+answers-split d [] rest = refl
+answers-split d (q ∷ asked) rest = ap (λ (l : List Answer). answer_on d q ∷ l) (answers-split (desk_behind d (answer_on d q)) asked rest)
 
-answers-append : (v : Values) (rows : Rows) (n : ℕ) (qs rs : List Request)
-    → answers v (state_with rows n) (qs ++ rs) ≡ answers v (state_with rows n) qs ++ answers v (state_with (rows_after_all v rows (accepted_by (answers v (state_with rows n) qs))) (n + length (accepted_by (answers v (state_with rows n) qs)))) rs
-answers-append v rows n [] rs =
-    let e : n ≡ n + 0 = omega arith in
-    ap (λ (k : ℕ). answers v (state_with rows k) rs) e
-answers-append v rows n (q ∷ qs) rs =
-    let a = answer v (state_with rows n) q in
-    let done = answers v (behind v (state_with rows n) a.accepted) qs in
-    ap (λ (l : List Answer). a ∷ l) (answers-append v (rows_behind v rows a.accepted) (batches_behind n a.accepted) qs rs)
-    ∙ ap (λ (r : Rows). (a ∷ done) ++ answers v (state_with r (batches_behind n a.accepted + length (accepted_by done))) rs) (sym (rows-first v rows a.accepted (accepted_by done)))
-    ∙ ap (λ (k : ℕ). (a ∷ done) ++ answers v (state_with (rows_after_all v rows (in_list a.accepted ++ accepted_by done)) k) rs) (sym (batches-first n a.accepted (accepted_by done)))
+-- the desk behind one request more
+pub after-one : (d : Desk) (asked : List Request) (q : Request) → desk_after d (asked ++ q ∷ []) ≡ desk_behind (desk_after d asked) (answer_on (desk_after d asked) q)
+after-one d [] q = refl
+after-one d (r ∷ asked) q = after-one (desk_behind d (answer_on d r)) asked q
 
--- the answers to more requests are those over the state behind the first
-pub answers-split : (w next : State) (asked rest : List Request) → IsStateAfter w asked next → answers_on w (asked ++ rest) ≡ answers_on w asked ++ answers_on next rest
-answers-split w next asked rest after =
-    answers-append w.values w.rows w.batches asked rest
-    ∙ ap (λ (r : Rows). answers_on w asked ++ answers w.values (state_with r (w.batches + length (accepted_by (answers_on w asked)))) rest) (sym after.rows)
-    ∙ ap (λ (k : ℕ). answers_on w asked ++ answers w.values (state_with next.rows k) rest) (sym after.batches)
-    ∙ ap (λ (v : Values). answers_on w asked ++ answers v (session_of next) rest) (sym after.values)
+-- the store behind requests is that of the accepted batches
+pub values-after : (d : Desk) (asked : List Request) → (desk_after d asked).values ≡ d.values
+values-after d [] = refl
+values-after d (q ∷ asked) = values-after (desk_behind d (answer_on d q)) asked
 
--- the state before the first request, and behind one more
-pub after-none : (w : State) → IsStateAfter w [] w
-after-none w = record { values = refl; rows = refl; batches = omega arith }
+pub rows-after : (d : Desk) (asked : List Request) → (desk_after d asked).state.rows ≡ rows_after_all d.values d.state.rows (accepted_by (answers_on d asked))
+rows-after d [] = refl
+rows-after d (q ∷ asked) =
+    let a = answer_on d q in
+    rows-after (desk_behind d a) asked ∙ sym (rows-first d.values d.state.rows a.accepted (accepted_by (answers_on (desk_behind d a) asked)))
 
-pub after-one : (w next last : State) (asked : List Request) (q : Request) → IsStateAfter w asked next → IsNextState next (answer_on next q) last → IsStateAfter w (asked ++ q ∷ []) last
-after-one w next last asked q after one =
-    let a = answer_on next q in
-    let split = answers-split w next asked (q ∷ []) after in
-    let accepted : accepted_by (answers_on w (asked ++ q ∷ [])) ≡ accepted_by (answers_on w asked) ++ (in_list a.accepted ++ []) =
-    ap accepted_by split ∙ accepted-append (answers_on w asked) (a ∷ []) in
-    record {
-      values = one.values ∙ after.values;
-      rows =
-          one.rows
-          ∙ sym (rows-first next.values next.rows a.accepted [])
-          ∙ ap (λ (v : Values). rows_after_all v next.rows (in_list a.accepted ++ [])) after.values
-          ∙ ap (λ (r : Rows). rows_after_all w.values r (in_list a.accepted ++ [])) after.rows
-          ∙ sym (rows-append w.values w.rows (accepted_by (answers_on w asked)) (in_list a.accepted ++ []))
-          ∙ ap (rows_after_all w.values w.rows) (sym accepted);
-      batches =
-          let so_far : last.batches ≡ next.batches + length (in_list a.accepted ++ []) =
-          one.batches ∙ (let e : batches_behind next.batches a.accepted ≡ batches_behind next.batches a.accepted + 0 = omega arith in e) ∙ sym (batches-first next.batches a.accepted []) in
-          let counted : length (accepted_by (answers_on w (asked ++ q ∷ []))) ≡ length (accepted_by (answers_on w asked)) + length (in_list a.accepted ++ []) =
-          ap (λ (l : List (List Change)). length l) accepted ∙ length-append (accepted_by (answers_on w asked)) (in_list a.accepted ++ []) in
-          omega (arith, so_far, counted, after.batches);
-    }
+pub batches-after : (d : Desk) (asked : List Request) → (desk_after d asked).state.batches ≡ d.state.batches + length (accepted_by (answers_on d asked))
+batches-after d [] = omega arith
+batches-after d (q ∷ asked) =
+    let a = answer_on d q in
+    batches-after (desk_behind d a) asked ∙ sym (batches-first d.state.batches a.accepted (accepted_by (answers_on (desk_behind d a) asked)))
 
 -- whether a request was refused so far
-pub refused-one : (w next : State) (asked : List Request) (q : Request) (before one : Bool) → IsStateAfter w asked next → before ≡ list_any (λ (a : Answer). a.refused) (answers_on w asked) → one ≡ (answer_on next q).refused
-    → (before || one) ≡ list_any (λ (a : Answer). a.refused) (answers_on w (asked ++ q ∷ []))
-refused-one w next asked q before one after is one-is =
+pub refused-one : (d : Desk) (asked : List Request) (q : Request) (before one : Bool) → before ≡ list_any (λ (a : Answer). a.refused) (answers_on d asked) → one ≡ (answer_on (desk_after d asked) q).refused
+    → (before || one) ≡ list_any (λ (a : Answer). a.refused) (answers_on d (asked ++ q ∷ []))
+refused-one d asked q before one is one-is =
     let p : Answer → Bool = λ a. a.refused in
-    let split = answers-split w next asked (q ∷ []) after in
+    let last = answer_on (desk_after d asked) q in
     ap (λ (b : Bool). b || one) is
-    ∙ ap (λ (b : Bool). list_any p (answers_on w asked) || b) (one-is ∙ last (answer_on next q).refused)
-    ∙ sym (ap (list_any p) split ∙ list_any-append p (answers_on w asked) (answer_on next q ∷ []))
+    ∙ ap (λ (b : Bool). list_any p (answers_on d asked) || b) (one-is ∙ alone last.refused)
+    ∙ sym (ap (list_any p) (answers-split d asked (q ∷ [])) ∙ list_any-append p (answers_on d asked) (last ∷ []))
   where
-    last : (b : Bool) → b ≡ (b || false)
-    last true = refl
-    last false = refl
+    alone : (b : Bool) → b ≡ (b || false)
+    alone true = refl
+    alone false = refl
 
 -- receipts behind whole answers
 pub acked-past : (d e : List Answer) (x : ℕ) → acked (length (text_of d) + x) (d ++ e) ≡ length (accepted_by d) + acked x e

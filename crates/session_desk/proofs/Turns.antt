@@ -11,9 +11,9 @@ use Rattle.site_disk.proofs.Moments.{start}
 use Rattle.page_gate.specs.Gate.{opening, is_open}
 use Rattle.page_gate.specs.Promises.{Holds}
 use Rattle.page_layout.specs.Heads.{Values}
+use Rattle.event_feed.specs.Meanings.{Slots}
 use Rattle.store_image.specs.Stores.{IsStore, LoadsAreStores}
 use Rattle.warehouse_core.specs.States.{State}
-use Rattle.warehouse_core.specs.Applying.{IsBefore}
 use Rattle.session_desk.specs.declared.status.Status.{Status}
 use Rattle.session_desk.specs.declared.status.Status.TheVariants as status
 use Rattle.session_desk.specs.Answers.{input_limit}
@@ -25,63 +25,64 @@ use Rattle.session_desk.specs.declared.requests.Asked as read
 use Rattle.session_desk.specs.declared.reading.ReadFault.{ReadFault}
 use Rattle.session_desk.specs.declared.reading.ReadFault.TheVariants as read_fault
 use Rattle.session_desk.specs.Asking.{Asks, IsAsked, asks, rest_of, is_past, AreWhole, IsNext, IsBroken}
-use Rattle.session_desk.specs.Session.{Request, Answer, is_over, text_of, in_list, accepted_by, acked, rows_behind, batches_behind, rows_after_all, requests_of, whole_requests}
+use Rattle.session_desk.specs.Session.{Request, Answer, is_over, text_of, in_list, accepted_by, acked, rows_after_all, requests_of, whole_requests}
 use Rattle.session_desk.specs.Courses.{course_text}
-use Rattle.session_desk.specs.Talks.{IsServing, session_of, answer_on, answers_on, IsNextState, IsReplying, talk, IsStoreAt, IsTalk, IsRead, IsToldOf, IsStateAfter, IsGoing, Concludes, IsKept, IsCutOff, IsEven}
+use Rattle.session_desk.specs.Talks.{Desk, desk_of, desk_behind, desk_after, IsServing, answer_on, answers_on, IsStoreOf, IsReplying, talk, IsStoreAt, IsTalk, IsRead, IsToldOf, IsGoing, Concludes, IsKept, IsCutOff, IsEven}
 use Rattle.session_desk.proofs.LifeLaws.{none-given}
 use Rattle.session_desk.proofs.Going.{safe_as, then_safe, then_said}
-use Rattle.session_desk.proofs.Replies.{rest-store}
-use Rattle.session_desk.proofs.Talking.{text-append, accepted-append, answers-split, after-none, after-one, refused-one, acked-past, acked-part, few-in-list}
+use Rattle.session_desk.proofs.Replies.{rest-store, desk-store}
+use Rattle.session_desk.proofs.Talking.{text-append, accepted-append, answers-split, after-one, values-after, rows-after, batches-after, refused-one, acked-past, acked-part, few-in-list}
 use Rattle.session_desk.proofs.Asking.{asks_all, none_whole, more_whole, whole_so_far}
 
 abbrev ending-of : List ℕ → List ℕ
 ending-of input = cond (is_over input) (codes "session too long\n") []
 
 -- the answers so far and those to come
-split : (w next : State) (input : List ℕ) (asked rest : List Request) → requests_of input ≡ asked ++ rest → IsStateAfter w asked next → (talk w input).answers ≡ answers_on w asked ++ answers_on next rest
-split w next input asked rest are after = ap (answers_on w) are ∙ answers-split w next asked rest after
+split : (d : Desk) (input : List ℕ) (asked rest : List Request) → requests_of input ≡ asked ++ rest → (talk d input).answers ≡ answers_on d asked ++ answers_on (desk_after d asked) rest
+split d input asked rest are = ap (answers_on d) are ∙ answers-split d asked rest
 
 -- the store so far is that after so many accepted batches
-store-at : (w next : State) (input : List ℕ) (asked rest : List Request) → requests_of input ≡ asked ++ rest → IsStateAfter w asked next → (c : List ℕ) → IsBefore next c → IsStoreAt w input (length (accepted_by (answers_on w asked))) c
-store-at w next input asked rest are after c store =
-    let done = accepted_by (answers_on w asked) in
-    let all : accepted_by (talk w input).answers ≡ done ++ accepted_by (answers_on next rest) =
-    ap accepted_by (split w next input asked rest are after) ∙ accepted-append (answers_on w asked) (answers_on next rest) in
-    let front : take (length done) (accepted_by (talk w input).answers) ≡ done = ap (take (length done)) all ∙ take-append_seam done (accepted_by (answers_on next rest)) in
-    let counted : length (accepted_by (talk w input).answers) ≡ length done + length (accepted_by (answers_on next rest)) =
+store-at : (d : Desk) (input : List ℕ) (asked rest : List Request) → requests_of input ≡ asked ++ rest → (c : List ℕ) → IsStoreOf (desk_after d asked) c → IsStoreAt d input (length (accepted_by (answers_on d asked))) c
+store-at d input asked rest are c store =
+    let next = desk_after d asked in
+    let done = accepted_by (answers_on d asked) in
+    let all : accepted_by (talk d input).answers ≡ done ++ accepted_by (answers_on next rest) =
+    ap accepted_by (split d input asked rest are) ∙ accepted-append (answers_on d asked) (answers_on next rest) in
+    let front : take (length done) (accepted_by (talk d input).answers) ≡ done = ap (take (length done)) all ∙ take-append_seam done (accepted_by (answers_on next rest)) in
+    let counted : length (accepted_by (talk d input).answers) ≡ length done + length (accepted_by (answers_on next rest)) =
     ap (λ (l : List (List Change)). length l) all ∙ length-append done (accepted_by (answers_on next rest)) in
-    let A : Values → Type 0 = λ v. IsStore v next.rows next.batches c in
-    let B : Rows → Type 0 = λ r. IsStore w.values r next.batches c in
-    let C : ℕ → Type 0 = λ n. IsStore w.values (rows_after_all w.values w.rows (take (length done) (accepted_by (talk w input).answers))) n c in
+    let A : Values → Type 0 = λ v. IsStore v next.state.rows next.state.batches c in
+    let B : Rows → Type 0 = λ r. IsStore d.values r next.state.batches c in
+    let C : ℕ → Type 0 = λ n. IsStore d.values (rows_after_all d.values d.state.rows (take (length done) (accepted_by (talk d input).answers))) n c in
     record {
       some = omega (arith, counted);
-      store = subst C after.batches (subst B (after.rows ∙ ap (rows_after_all w.values w.rows) (sym front)) (subst A after.values store));
+      store = subst C (batches-after d asked) (subst B (rows-after d asked ∙ ap (rows_after_all d.values d.state.rows) (sym front)) (subst A (values-after d asked) store));
     }
 
 -- a moment, by what was said of what is to come
-point : (w next : State) (input : List ℕ) (a : SiteState) (asked rest : List Request) → requests_of input ≡ asked ++ rest → IsStateAfter w asked next
-    → (s t said c : List ℕ) (m : ℕ) → text_of (answers_on next rest) ++ ending-of input ≡ s ++ t → said ≡ a.said ++ (text_of (answers_on w asked) ++ s) → IsStoreAt w input m c
-    → length (accepted_by (answers_on w asked)) + acked (length s) (answers_on next rest) ≤ m
-    → m ≤ length (accepted_by (answers_on w asked)) + acked (length s) (answers_on next rest) + 1 → IsTalk w input a said c
-point w next input a asked rest are after s t said c m cut is store holds few =
-    let d = answers_on w asked in
-    let e = answers_on next rest in
-    let all = split w next input asked rest are after in
-    let whole : course_text (talk w input) ≡ (text_of d ++ s) ++ t =
+point : (d : Desk) (input : List ℕ) (a : SiteState) (asked rest : List Request) → requests_of input ≡ asked ++ rest
+    → (s t said c : List ℕ) (m : ℕ) → text_of (answers_on (desk_after d asked) rest) ++ ending-of input ≡ s ++ t → said ≡ a.said ++ (text_of (answers_on d asked) ++ s) → IsStoreAt d input m c
+    → length (accepted_by (answers_on d asked)) + acked (length s) (answers_on (desk_after d asked) rest) ≤ m
+    → m ≤ length (accepted_by (answers_on d asked)) + acked (length s) (answers_on (desk_after d asked) rest) + 1 → IsTalk d input a said c
+point d input a asked rest are s t said c m cut is store holds few =
+    let f = answers_on d asked in
+    let e = answers_on (desk_after d asked) rest in
+    let all = split d input asked rest are in
+    let whole : course_text (talk d input) ≡ (text_of f ++ s) ++ t =
     ap (λ (l : List Answer). text_of l ++ ending-of input) all
-    ∙ ap (λ (l : List ℕ). l ++ ending-of input) (text-append d e)
-    ∙ append_assoc (text_of d) (text_of e) (ending-of input)
-    ∙ ap (λ (l : List ℕ). text_of d ++ l) cut
-    ∙ sym (append_assoc (text_of d) s t) in
-    let k : ℕ = length (text_of d ++ s) in
-    let k-is : k ≡ length (text_of d) + length s = length-append (text_of d) s in
-    let long : length (course_text (talk w input)) ≡ k + length t = ap (λ (l : List ℕ). length l) whole ∙ length-append (text_of d ++ s) t in
-    let receipts : acked k (talk w input).answers ≡ length (accepted_by d) + acked (length s) e =
-    ap (λ (j : ℕ). acked j (talk w input).answers) k-is ∙ ap (acked (length (text_of d) + length s)) all ∙ acked-past d e (length s) in
+    ∙ ap (λ (l : List ℕ). l ++ ending-of input) (text-append f e)
+    ∙ append_assoc (text_of f) (text_of e) (ending-of input)
+    ∙ ap (λ (l : List ℕ). text_of f ++ l) cut
+    ∙ sym (append_assoc (text_of f) s t) in
+    let k : ℕ = length (text_of f ++ s) in
+    let k-is : k ≡ length (text_of f) + length s = length-append (text_of f) s in
+    let long : length (course_text (talk d input)) ≡ k + length t = ap (λ (l : List ℕ). length l) whole ∙ length-append (text_of f ++ s) t in
+    let receipts : acked k (talk d input).answers ≡ length (accepted_by f) + acked (length s) e =
+    ap (λ (j : ℕ). acked j (talk d input).answers) k-is ∙ ap (acked (length (text_of f) + length s)) all ∙ acked-past f e (length s) in
     record {
       k = k;
       within = omega (arith, long);
-      prefix = is ∙ ap (λ (l : List ℕ). a.said ++ l) (sym (ap (take k) whole ∙ take-append_seam (text_of d ++ s) t));
+      prefix = is ∙ ap (λ (l : List ℕ). a.said ++ l) (sym (ap (take k) whole ∙ take-append_seam (text_of f ++ s) t));
       m = m;
       store = store;
       holds = at-most receipts holds;
@@ -95,36 +96,35 @@ point w next input a asked rest are after s t said c m cut is store holds few =
     at-most-one {x} {y} {z} e le = omega (arith, e, le)
 
 -- no receipt has ended where nothing of what is to come was said
-none-said : (next : State) (rest : List Request) → acked 0 (answers_on next rest) ≡ 0
-none-said next rest = none-given next.values (session_of next) rest
+none-said : (d : Desk) (rest : List Request) → acked 0 (answers_on d rest) ≡ 0
+none-said d rest = none-given d.values d.state rest
 
 -- between two turns
-pub at-rest : (w next : State) (input : List ℕ) (a : SiteState) (asked rest : List Request) → requests_of input ≡ asked ++ rest → IsStateAfter w asked next
-    → (said c : List ℕ) → said ≡ a.said ++ text_of (answers_on w asked) → IsBefore next c → IsTalk w input a said c
-at-rest w next input a asked rest are after said c is store =
+pub at-rest : (d : Desk) (input : List ℕ) (a : SiteState) (asked rest : List Request) → requests_of input ≡ asked ++ rest
+    → (said c : List ℕ) → said ≡ a.said ++ text_of (answers_on d asked) → IsStoreOf (desk_after d asked) c → IsTalk d input a said c
+at-rest d input a asked rest are said c is store =
+    let next = desk_after d asked in
     let none = none-said next rest in
-    point w next input a asked rest are after [] (text_of (answers_on next rest) ++ ending-of input) said c (length (accepted_by (answers_on w asked))) refl
-    (is ∙ ap (λ (l : List ℕ). a.said ++ l) (sym (append-nil (text_of (answers_on w asked)))))
-    (store-at w next input asked rest are after c store)
+    point d input a asked rest are [] (text_of (answers_on next rest) ++ ending-of input) said c (length (accepted_by (answers_on d asked))) refl
+    (is ∙ ap (λ (l : List ℕ). a.said ++ l) (sym (append-nil (text_of (answers_on d asked)))))
+    (store-at d input asked rest are c store)
     (omega (arith, none)) (omega (arith, none))
 
-length-one : (w next : State) (asked : List Request) (q : Request) → IsStateAfter w asked next
-    → length (accepted_by (answers_on w (asked ++ q ∷ []))) ≡ length (accepted_by (answers_on w asked)) + length (in_list (answer_on next q).accepted)
-length-one w next asked q after =
-    ap (λ (l : List Answer). length (accepted_by l)) (answers-split w next asked (q ∷ []) after)
-    ∙ ap (λ (l : List (List Change)). length l) (accepted-append (answers_on w asked) (answer_on next q ∷ []))
-    ∙ length-append (accepted_by (answers_on w asked)) (in_list (answer_on next q).accepted ++ [])
-    ∙ ap (λ (l : List (List Change)). length (accepted_by (answers_on w asked)) + length l) (append-nil (in_list (answer_on next q).accepted))
-
-abbrev behind-state : State → Answer → State
-behind-state s x = record s { rows = rows_behind s.values s.rows x.accepted; batches = batches_behind s.batches x.accepted }
+length-one : (d : Desk) (asked : List Request) (q : Request) → length (accepted_by (answers_on d (asked ++ q ∷ []))) ≡ length (accepted_by (answers_on d asked)) + length (in_list (answer_on (desk_after d asked) q).accepted)
+length-one d asked q =
+    let x = answer_on (desk_after d asked) q in
+    ap (λ (l : List Answer). length (accepted_by l)) (answers-split d asked (q ∷ []))
+    ∙ ap (λ (l : List (List Change)). length l) (accepted-append (answers_on d asked) (x ∷ []))
+    ∙ length-append (accepted_by (answers_on d asked)) (in_list x.accepted ++ [])
+    ∙ ap (λ (l : List (List Change)). length (accepted_by (answers_on d asked)) + length l) (append-nil (in_list x.accepted))
 
 -- a moment of a turn
-turn-moment : (w next : State) (input : List ℕ) (a b : SiteState) (asked rest : List Request) (q : Request) → requests_of input ≡ asked ++ (q ∷ rest) → IsStateAfter w asked next
-    → b.said ≡ a.said ++ text_of (answers_on w asked) → (s c : List ℕ) → IsReplying next q b s c → IsTalk w input a s c
-turn-moment w next input a b asked rest q are after so_far s c m =
+turn-moment : (d : Desk) (input : List ℕ) (a b : SiteState) (asked rest : List Request) (q : Request) → requests_of input ≡ asked ++ (q ∷ rest)
+    → b.said ≡ a.said ++ text_of (answers_on d asked) → (s c : List ℕ) → IsReplying (desk_after d asked) q b s c → IsTalk d input a s c
+turn-moment d input a b asked rest q are so_far s c m =
+    let next = desk_after d asked in
     let x = answer_on next q in
-    let last = behind-state next x in
+    let last = desk_behind next x in
     let more = answers_on last rest in
     let n = m.n in
     let few : length (take n x.text) ≤ length x.text =
@@ -133,48 +133,55 @@ turn-moment w next input a b asked rest q are after so_far s c m =
     append_assoc x.text (text_of more) (ending-of input)
     ∙ ap (λ (l : List ℕ). l ++ (text_of more ++ ending-of input)) (sym (take-append-drop n x.text))
     ∙ append_assoc (take n x.text) (drop n x.text) (text_of more ++ ending-of input) in
-    let said : s ≡ a.said ++ (text_of (answers_on w asked) ++ take n x.text) =
-    m.prefix ∙ ap (λ (l : List ℕ). l ++ take n x.text) so_far ∙ append_assoc a.said (text_of (answers_on w asked)) (take n x.text) in
+    let said : s ≡ a.said ++ (text_of (answers_on d asked) ++ take n x.text) =
+    m.prefix ∙ ap (λ (l : List ℕ). l ++ take n x.text) so_far ∙ append_assoc a.said (text_of (answers_on d asked)) (take n x.text) in
     let none : acked 0 more ≡ 0 = none-said last rest in
     ⊎_elim
     (λ before.
     let z : acked (length (take n x.text)) (x ∷ more) ≡ 0 = ap (λ (j : ℕ). acked (length (take j x.text)) (x ∷ more)) before.0 ∙ none-said next (q ∷ rest) in
-    point w next input a asked (q ∷ rest) are after (take n x.text) (drop n x.text ++ (text_of more ++ ending-of input)) s c (length (accepted_by (answers_on w asked))) cut said
-    (store-at w next input asked (q ∷ rest) are after c before.1) (omega (arith, z)) (omega (arith, z)))
+    point d input a asked (q ∷ rest) are (take n x.text) (drop n x.text ++ (text_of more ++ ending-of input)) s c (length (accepted_by (answers_on d asked))) cut said
+    (store-at d input asked (q ∷ rest) are c before.1) (omega (arith, z)) (omega (arith, z)))
     (λ behind.
     let part = acked-part x more (length (take n x.text)) few none in
     let one = few-in-list x.accepted in
-    let counted = length-one w next asked q after in
-    let steps : IsStateAfter w (asked ++ q ∷ []) last = after-one w next last asked q after (record { values = refl; rows = refl; batches = refl }) in
+    let counted = length-one d asked q in
+    let P : Desk → Type 0 = λ y. IsStoreOf y c in
+    let store : IsStoreOf (desk_after d (asked ++ q ∷ [])) c = subst P (sym (after-one d asked q)) behind in
     let are-next : requests_of input ≡ (asked ++ q ∷ []) ++ rest = are ∙ sym (append_assoc asked (q ∷ []) rest) in
-    point w next input a asked (q ∷ rest) are after (take n x.text) (drop n x.text ++ (text_of more ++ ending-of input)) s c (length (accepted_by (answers_on w (asked ++ q ∷ [])))) cut said
-    (store-at w last input (asked ++ q ∷ []) rest are-next steps c behind) (omega (arith, part, one, counted)) (omega (arith, part, one, counted)))
+    point d input a asked (q ∷ rest) are (take n x.text) (drop n x.text ++ (text_of more ++ ending-of input)) s c (length (accepted_by (answers_on d (asked ++ q ∷ [])))) cut said
+    (store-at d input (asked ++ q ∷ []) rest are-next c store) (omega (arith, part, one, counted)) (omega (arith, part, one, counted)))
     m.image_is
 
 -- one turn more
-pub turn-told : (w next last : State) (input : List ℕ) (a b c : SiteState) (asked rest : List Request) (q : Request) → requests_of input ≡ asked ++ (q ∷ rest) → IsStateAfter w asked next
-    → IsToldOf w input asked a b → Safe b c (IsReplying next q b) → c.said ≡ b.said ++ (answer_on next q).text → IsToldOf w input (asked ++ q ∷ []) a c
-turn-told w next last input a b c asked rest q are after told reply said =
-    let d = answers_on w asked in
-    let x = answer_on next q in
-    let text : text_of (answers_on w (asked ++ q ∷ [])) ≡ text_of d ++ x.text =
-    ap text_of (answers-split w next asked (q ∷ []) after) ∙ text-append d (x ∷ []) ∙ ap (λ (l : List ℕ). text_of d ++ l) (append-nil x.text) in
+turn-told : (d : Desk) (input : List ℕ) (a b c : SiteState) (asked rest : List Request) (q : Request) → requests_of input ≡ asked ++ (q ∷ rest)
+    → IsToldOf d input asked a b → Safe b c (IsReplying (desk_after d asked) q b) → c.said ≡ b.said ++ (answer_on (desk_after d asked) q).text → IsToldOf d input (asked ++ q ∷ []) a c
+turn-told d input a b c asked rest q are told reply said =
+    let f = answers_on d asked in
+    let x = answer_on (desk_after d asked) q in
+    let text : text_of (answers_on d (asked ++ q ∷ [])) ≡ text_of f ++ x.text =
+    ap text_of (answers-split d asked (q ∷ [])) ∙ text-append f (x ∷ []) ∙ ap (λ (l : List ℕ). text_of f ++ l) (append-nil x.text) in
     record {
-      said = said ∙ ap (λ (l : List ℕ). l ++ x.text) told.said ∙ append_assoc a.said (text_of d) x.text ∙ ap (λ (l : List ℕ). a.said ++ l) (sym text);
-      safe = then_safe told.safe (safe_as reply (λ s i m. turn-moment w next input a b asked rest q are after told.said s i m));
+      said = said ∙ ap (λ (l : List ℕ). l ++ x.text) told.said ∙ append_assoc a.said (text_of f) x.text ∙ ap (λ (l : List ℕ). a.said ++ l) (sym text);
+      safe = then_safe told.safe (safe_as reply (λ s i m. turn-moment d input a b asked rest q are told.said s i m));
     }
 
+-- what holds of a desk holds of the one that it is
+at-desk : {d e : Desk} (P : Desk → Type 0) → d ≡ e → P d → P e
+at-desk P same given = subst P same given
+
 -- the moments of a reply that fails
-pub turn-failed : (tells : Bool) (w next : State) (input : List ℕ) (a b c : SiteState) (refused : Bool) (r new : Reading) (left left' : List ℕ) (q : Request) → IsTrue tells → IsGoing tells w input a refused next r left b → IsNext q r left new left'
-    → Safe b c (IsReplying next q b) → Safe a c (IsTalk w input a)
-turn-failed tells w next input a b c refused r new left left' q t going is reply =
+pub turn-failed : (tells : Bool) (d next : Desk) (input : List ℕ) (a b c : SiteState) (refused : Bool) (r new : Reading) (left left' : List ℕ) (q : Request) → IsTrue tells → IsGoing tells d input a refused next r left b → IsNext q r left new left'
+    → Safe b c (IsReplying next q b) → Safe a c (IsTalk d input a)
+turn-failed tells d next input a b c refused r new left left' q t going is reply =
     let told = going.told t in
     let are : requests_of input ≡ going.asked ++ (q ∷ asks new.room (rest_of new left')) = going.read.requests ∙ ap (λ (l : List Request). going.asked ++ l) is.asked in
-    then_safe told.safe (safe_as reply (λ s i m. turn-moment w next input a b going.asked (asks new.room (rest_of new left')) q are going.state told.said s i m))
+    let replied = at-desk (λ x. Safe b c (IsReplying x q b)) going.desk reply in
+    then_safe told.safe (safe_as replied (λ s i m. turn-moment d input a b going.asked (asks new.room (rest_of new left')) q are told.said s i m))
 
 -- before the first turn
-pub begins-going : LoadsAreStores → (tells : Bool) (w : State) (input : List ℕ) (a : SiteState) → (IsTrue tells → IsNow a) → IsServing w → (IsTrue tells → Holds w.pages a) → IsGoing tells w input a false w fresh input a
-begins-going stores tells w input a now serving holds =
+pub begins-going : LoadsAreStores → (tells : Bool) (w : State) (slots : Slots) (input : List ℕ) (a : SiteState) → (IsTrue tells → IsNow a) → IsServing w → (IsTrue tells → Holds w.pages a) → IsGoing tells (desk_of w slots) input a false (desk_of w slots) fresh input a
+begins-going stores tells w slots input a now serving holds =
+    let d = desk_of w slots in
     let are : requests_of input ≡ [] ++ asks input_limit input = sym (asks_all input) in
     record {
       asked = [];
@@ -187,19 +194,19 @@ begins-going stores tells w input a now serving holds =
         whole = inl none_whole;
         same_source = λ e. absurd (cc e);
       };
-      state = after-none w;
+      desk = refl;
       refused_is = refl;
       told = λ t. record {
         said = sym (append-nil a.said);
-        safe = start (now t) (λ c left. at-rest w w input a [] (asks input_limit input) are (after-none w) a.said c (sym (append-nil a.said)) (rest-store stores w a serving (holds t) c left));
+        safe = start (now t) (λ c left. at-rest d input a [] (asks input_limit input) are a.said c (sym (append-nil a.said)) (rest-store stores w a serving (holds t) c left));
       };
     }
 
 -- and after each
-pub goes-on : (tells : Bool) (w next last : State) (input : List ℕ) (a b c : SiteState) (refused one : Bool) (r new : Reading) (left left' : List ℕ) (q : Request)
-    → IsGoing tells w input a refused next r left b → IsNext q r left new left' → HasSource new left' → (r.ended ≡ true → new.ended ≡ true) → IsNextState next (answer_on next q) last → one ≡ (answer_on next q).refused
-    → (IsTrue tells → Safe b c (IsReplying next q b) × (c.said ≡ b.said ++ (answer_on next q).text)) → IsGoing tells w input a (refused || one) last new left' c
-goes-on tells w next last input a b c refused one r new left left' q going is source ends state one-is reply =
+pub goes-on : (tells : Bool) (d next last : Desk) (input : List ℕ) (a b c : SiteState) (refused one : Bool) (r new : Reading) (left left' : List ℕ) (q : Request)
+    → IsGoing tells d input a refused next r left b → IsNext q r left new left' → HasSource new left' → (r.ended ≡ true → new.ended ≡ true) → last ≡ desk_behind next (answer_on next q) → one ≡ (answer_on next q).refused
+    → (IsTrue tells → Safe b c (IsReplying next q b) × (c.said ≡ b.said ++ (answer_on next q).text)) → IsGoing tells d input a (refused || one) last new left' c
+goes-on tells d next last input a b c refused one r new left left' q going is source ends desk one-is reply =
     let asked = going.asked in
     let rest = asks new.room (rest_of new left') in
     let are : requests_of input ≡ asked ++ (q ∷ rest) = going.read.requests ∙ ap (λ (l : List Request). asked ++ l) is.asked in
@@ -218,9 +225,11 @@ goes-on tells w next last input a b c refused one r new left left' q going is so
         whole = both-whole going.read.whole is.whole;
         same_source = source;
       };
-      state = after-one w next last asked q going.state state;
-      refused_is = refused-one w next asked q refused one going.state going.refused_is one-is;
-      told = λ t. turn-told w next last input a b c asked rest q are going.state (going.told t) (reply t).0 (reply t).1;
+      desk = desk ∙ ap (λ (x : Desk). desk_behind x (answer_on x q)) going.desk ∙ sym (after-one d asked q);
+      refused_is = refused-one d asked q refused one going.refused_is (one-is ∙ ap (λ (x : Desk). (answer_on x q).refused) going.desk);
+      told = λ t. turn-told d input a b c asked rest q are (going.told t)
+          (at-desk (λ x. Safe b c (IsReplying x q b)) going.desk (reply t).0)
+          ((reply t).1 ∙ ap (λ (x : Desk). b.said ++ (answer_on x q).text) going.desk);
     }
   where
     both-whole : AreWhole going.read.used going.asked ⊎ (r.ended ≡ true) → AreWhole is.used (q ∷ []) ⊎ (new.ended ≡ true) → AreWhole (going.read.used ++ is.used) (going.asked ++ q ∷ []) ⊎ (new.ended ≡ true)
@@ -233,101 +242,102 @@ all-asked : (input : List ℕ) (asked : List Request) (r : Reading) (left : List
 all-asked input asked r left read none = read.requests ∙ ap (λ (l : List Request). asked ++ l) none
 
 -- the end of the input
-pub ends-fine : (tells : Bool) (w next : State) (input : List ℕ) (a b : SiteState) (refused : Bool) (r : Reading) (left : List ℕ) (result : Status) → IsTrue tells → IsGoing tells w input a refused next r left b
-    → asks r.room (rest_of r left) ≡ [] → is_past r.room (rest_of r left) ≡ false → result ≡ cond refused status.Refused status.Fine → Concludes w input result a b
-ends-fine tells w next input a b refused r left result t going none past is =
+pub ends-fine : (tells : Bool) (d next : Desk) (input : List ℕ) (a b : SiteState) (refused : Bool) (r : Reading) (left : List ℕ) (result : Status) → IsTrue tells → IsGoing tells d input a refused next r left b
+    → asks r.room (rest_of r left) ≡ [] → is_past r.room (rest_of r left) ≡ false → result ≡ cond refused status.Refused status.Fine → Concludes d input result a b
+ends-fine tells d next input a b refused r left result t going none past is =
     let are : requests_of input ≡ going.asked = all-asked input going.asked r left going.read none ∙ append-nil going.asked in
     let over : is_over input ≡ false = sym going.read.past ∙ past in
-    let given : (talk w input).answers ≡ answers_on w going.asked = ap (answers_on w) are in
+    let given : (talk d input).answers ≡ answers_on d going.asked = ap (answers_on d) are in
     record {
       text =
           (going.told t).said
           ∙ ap (λ (l : List ℕ). a.said ++ l)
-          (sym (ap (λ (l : List Answer). text_of l ++ ending-of input) given ∙ ap (λ (o : Bool). text_of (answers_on w going.asked) ++ cond o (codes "session too long\n") []) over ∙ append-nil (text_of (answers_on w going.asked))));
+          (sym (ap (λ (l : List Answer). text_of l ++ ending-of input) given ∙ ap (λ (o : Bool). text_of (answers_on d going.asked) ++ cond o (codes "session too long\n") []) over ∙ append-nil (text_of (answers_on d going.asked))));
       status =
           is
           ∙ ap (λ (o : Bool). cond o status.Refused status.Fine) (going.refused_is ∙ ap (list_any (λ (x : Answer). x.refused)) (sym given))
-          ∙ sym (ap (λ (o : Bool). cond o status.TooLong (cond (list_any (λ (x : Answer). x.refused) (talk w input).answers) status.Refused status.Fine)) over);
+          ∙ sym (ap (λ (o : Bool). cond o status.TooLong (cond (list_any (λ (x : Answer). x.refused) (talk d input).answers) status.Refused status.Fine)) over);
     }
 
 -- an input that is too long
-pub ends-too-long : (tells : Bool) (w next : State) (input : List ℕ) (a b c : SiteState) (refused : Bool) (r : Reading) (left : List ℕ) (result : Status) → IsTrue tells → IsGoing tells w input a refused next r left b
-    → asks r.room (rest_of r left) ≡ [] → is_past r.room (rest_of r left) ≡ true → result ≡ status.TooLong → c.said ≡ b.said ++ codes "session too long\n" → Concludes w input result a c
-ends-too-long tells w next input a b c refused r left result t going none past is said =
+pub ends-too-long : (tells : Bool) (d next : Desk) (input : List ℕ) (a b c : SiteState) (refused : Bool) (r : Reading) (left : List ℕ) (result : Status) → IsTrue tells → IsGoing tells d input a refused next r left b
+    → asks r.room (rest_of r left) ≡ [] → is_past r.room (rest_of r left) ≡ true → result ≡ status.TooLong → c.said ≡ b.said ++ codes "session too long\n" → Concludes d input result a c
+ends-too-long tells d next input a b c refused r left result t going none past is said =
     let are : requests_of input ≡ going.asked = all-asked input going.asked r left going.read none ∙ append-nil going.asked in
     let over : is_over input ≡ true = sym going.read.past ∙ past in
-    let given : (talk w input).answers ≡ answers_on w going.asked = ap (answers_on w) are in
+    let given : (talk d input).answers ≡ answers_on d going.asked = ap (answers_on d) are in
     record {
       text =
           said
           ∙ ap (λ (l : List ℕ). l ++ codes "session too long\n") (going.told t).said
-          ∙ append_assoc a.said (text_of (answers_on w going.asked)) (codes "session too long\n")
+          ∙ append_assoc a.said (text_of (answers_on d going.asked)) (codes "session too long\n")
           ∙ ap (λ (l : List ℕ). a.said ++ l)
-          (sym (ap (λ (l : List Answer). text_of l ++ ending-of input) given ∙ ap (λ (o : Bool). text_of (answers_on w going.asked) ++ cond o (codes "session too long\n") []) over));
-      status = is ∙ sym (ap (λ (o : Bool). cond o status.TooLong (cond (list_any (λ (x : Answer). x.refused) (talk w input).answers) status.Refused status.Fine)) over);
+          (sym (ap (λ (l : List Answer). text_of l ++ ending-of input) given ∙ ap (λ (o : Bool). text_of (answers_on d going.asked) ++ cond o (codes "session too long\n") []) over));
+      status = is ∙ sym (ap (λ (o : Bool). cond o status.TooLong (cond (list_any (λ (x : Answer). x.refused) (talk d input).answers) status.Refused status.Fine)) over);
     }
 
 -- its moments
-pub too-long-moments : LoadsAreStores → (tells : Bool) (w next : State) (input : List ℕ) (a b c : SiteState) (refused : Bool) (r : Reading) (left : List ℕ) → IsTrue tells → IsGoing tells w input a refused next r left b
-    → asks r.room (rest_of r left) ≡ [] → is_past r.room (rest_of r left) ≡ true → IsServing next → Holds next.pages b → Safe b c (IsSaying b (codes "session too long\n")) → Safe a c (IsTalk w input a)
-too-long-moments stores tells w next input a b c refused r left t going none past serving holds say =
+pub too-long-moments : LoadsAreStores → (tells : Bool) (d : Desk) (w : State) (slots : Slots) (input : List ℕ) (a b c : SiteState) (refused : Bool) (r : Reading) (left : List ℕ) → IsTrue tells → IsGoing tells d input a refused (desk_of w slots) r left b
+    → asks r.room (rest_of r left) ≡ [] → is_past r.room (rest_of r left) ≡ true → IsServing w → Holds w.pages b → Safe b c (IsSaying b (codes "session too long\n")) → Safe a c (IsTalk d input a)
+too-long-moments stores tells d w slots input a b c refused r left t going none past serving holds say =
     let asked = going.asked in
     let are = all-asked input asked r left going.read none in
     let over : is_over input ≡ true = sym going.read.past ∙ past in
     let ending : ending-of input ≡ codes "session too long\n" = ap (λ (o : Bool). cond o (codes "session too long\n") []) over in
     let told = going.told t in
-    let d = answers_on w asked in
+    let f = answers_on d asked in
     then_said (codes "session too long\n") told.safe say (λ n i left'.
     let line = codes "session too long\n" in
-    point w next input a asked [] are going.state (take n line) (drop n line) (b.said ++ take n line) i (length (accepted_by d))
+    point d input a asked [] are (take n line) (drop n line) (b.said ++ take n line) i (length (accepted_by f))
     (ending ∙ sym (take-append-drop n line))
-    (ap (λ (l : List ℕ). l ++ take n line) told.said ∙ append_assoc a.said (text_of d) (take n line))
-    (store-at w next input asked [] are going.state i (rest-store stores next b serving holds i left'))
+    (ap (λ (l : List ℕ). l ++ take n line) told.said ∙ append_assoc a.said (text_of f) (take n line))
+    (store-at d input asked [] are i (desk-store stores w slots (desk_after d asked) b going.desk serving holds i left'))
     (omega arith) (omega arith))
 
 -- one image with all accepted batches, where what was said after b leaves the content alone
-pub all-kept : LoadsAreStores → (tells : Bool) (w next : State) (input : List ℕ) (a b : SiteState) (refused : Bool) (r : Reading) (left : List ℕ) → IsGoing tells w input a refused next r left b
-    → asks r.room (rest_of r left) ≡ [] → IsServing next → (c : SiteState) → IsNow c → Holds next.pages c → IsKept w input c
-all-kept stores tells w next input a b refused r left going none serving c now holds =
+pub all-kept : LoadsAreStores → (tells : Bool) (d : Desk) (w : State) (slots : Slots) (input : List ℕ) (a b : SiteState) (refused : Bool) (r : Reading) (left : List ℕ) → IsGoing tells d input a refused (desk_of w slots) r left b
+    → asks r.room (rest_of r left) ≡ [] → IsServing w → (c : SiteState) → IsNow c → Holds w.pages c → IsKept d input c
+all-kept stores tells d w slots input a b refused r left going none serving c now holds =
     let asked = going.asked in
     let are = all-asked input asked r left going.read none in
-    let given : (talk w input).answers ≡ answers_on w asked = ap (answers_on w) (are ∙ append-nil asked) in
-    let P : List Answer → Type 0 = λ l. IsStoreAt w input (length (accepted_by l)) c.content in
+    let given : (talk d input).answers ≡ answers_on d asked = ap (answers_on d) (are ∙ append-nil asked) in
+    let P : List Answer → Type 0 = λ l. IsStoreAt d input (length (accepted_by l)) c.content in
     record {
       only = holds.only;
-      store = subst P (sym given) (store-at w next input asked [] are going.state c.content (rest-store stores next c serving holds c.content now.read));
+      store = subst P (sym given) (store-at d input asked [] are c.content (desk-store stores w slots (desk_after d asked) c going.desk serving holds c.content now.read));
     }
 
 -- every committed batch has its receipt said
-pub even-out : (tells : Bool) (w next : State) (input : List ℕ) (a b c : SiteState) (refused : Bool) (r : Reading) (left : List ℕ) → IsTrue tells → IsGoing tells w input a refused next r left b
-    → c.said ≡ b.said → ((i : List ℕ) → c.may_leave i → IsBefore next i) → IsEven w input a c
-even-out tells w next input a b c refused r left t going same images =
+pub even-out : (tells : Bool) (d next : Desk) (input : List ℕ) (a b c : SiteState) (refused : Bool) (r : Reading) (left : List ℕ) → IsTrue tells → IsGoing tells d input a refused next r left b
+    → c.said ≡ b.said → ((i : List ℕ) → c.may_leave i → IsStoreOf next i) → IsEven d input a c
+even-out tells d next input a b c refused r left t going same images =
     let asked = going.asked in
     let rest = asks r.room (rest_of r left) in
-    let d = answers_on w asked in
-    let e = answers_on next rest in
-    let all = split w next input asked rest going.read.requests going.state in
-    let whole : course_text (talk w input) ≡ text_of d ++ (text_of e ++ ending-of input) =
-    ap (λ (l : List Answer). text_of l ++ ending-of input) all ∙ ap (λ (l : List ℕ). l ++ ending-of input) (text-append d e) ∙ append_assoc (text_of d) (text_of e) (ending-of input) in
-    let long : length (course_text (talk w input)) ≡ length (text_of d) + length (text_of e ++ ending-of input) = ap (λ (l : List ℕ). length l) whole ∙ length-append (text_of d) (text_of e ++ ending-of input) in
-    let z : length (text_of d) ≡ length (text_of d) + 0 = omega arith in
-    let receipts : acked (length (text_of d)) (talk w input).answers ≡ length (accepted_by d) =
-    ap (λ (j : ℕ). acked j (talk w input).answers) z ∙ ap (acked (length (text_of d) + 0)) all ∙ acked-past d e 0 ∙ (let none = none-said next rest in omega (arith, none)) in
-    let P : ℕ → List ℕ → Type 0 = λ m i. IsStoreAt w input m i in
+    let f = answers_on d asked in
+    let e = answers_on (desk_after d asked) rest in
+    let all = split d input asked rest going.read.requests in
+    let whole : course_text (talk d input) ≡ text_of f ++ (text_of e ++ ending-of input) =
+    ap (λ (l : List Answer). text_of l ++ ending-of input) all ∙ ap (λ (l : List ℕ). l ++ ending-of input) (text-append f e) ∙ append_assoc (text_of f) (text_of e) (ending-of input) in
+    let long : length (course_text (talk d input)) ≡ length (text_of f) + length (text_of e ++ ending-of input) = ap (λ (l : List ℕ). length l) whole ∙ length-append (text_of f) (text_of e ++ ending-of input) in
+    let z : length (text_of f) ≡ length (text_of f) + 0 = omega arith in
+    let receipts : acked (length (text_of f)) (talk d input).answers ≡ length (accepted_by f) =
+    ap (λ (j : ℕ). acked j (talk d input).answers) z ∙ ap (acked (length (text_of f) + 0)) all ∙ acked-past f e 0 ∙ (let none = none-said (desk_after d asked) rest in omega (arith, none)) in
     record {
-      k = length (text_of d);
+      k = length (text_of f);
       within = omega (arith, long);
-      prefix = same ∙ (going.told t).said ∙ ap (λ (l : List ℕ). a.said ++ l) (sym (ap (take (length (text_of d))) whole ∙ take-append_seam (text_of d) (text_of e ++ ending-of input)));
-      stores = λ i left'. let Q : ℕ → Type 0 = λ m. P m i in subst Q (sym receipts) (store-at w next input asked rest going.read.requests going.state i (images i left'));
+      prefix = same ∙ (going.told t).said ∙ ap (λ (l : List ℕ). a.said ++ l) (sym (ap (take (length (text_of f))) whole ∙ take-append_seam (text_of f) (text_of e ++ ending-of input)));
+      stores = λ i left'.
+          let Q : ℕ → Type 0 = λ m. IsStoreAt d input m i in
+          subst Q (sym receipts) (store-at d input asked rest going.read.requests i (at-desk (λ x. IsStoreOf x i) going.desk (images i left')));
     }
 
 -- a fault of the source
-pub cut-off : (tells : Bool) (w next : State) (input : List ℕ) (a b : SiteState) (refused : Bool) (r : Reading) (left left' : List ℕ) → IsTrue tells → IsGoing tells w input a refused next r left b → IsBroken r left left' → IsCutOff w input left' a b
-cut-off tells w next input a b refused r left left' t going broken =
+pub cut-off : (tells : Bool) (d next : Desk) (input : List ℕ) (a b : SiteState) (refused : Bool) (r : Reading) (left left' : List ℕ) → IsTrue tells → IsGoing tells d input a refused next r left b → IsBroken r left left' → IsCutOff d input left' a b
+cut-off tells d next input a b refused r left left' t going broken =
     record {
       front = going.read.used ++ broken.part;
       gave = going.read.front ∙ ap (λ (l : List ℕ). going.read.used ++ l) broken.front ∙ sym (append_assoc going.read.used broken.part left');
-      text = (going.told t).said ∙ ap (λ (l : List Request). a.said ++ text_of (answers_on w l)) (sym (so-far going.read.whole));
+      text = (going.told t).said ∙ ap (λ (l : List Request). a.said ++ text_of (answers_on d l)) (sym (so-far going.read.whole));
     }
   where
     so-far : AreWhole going.read.used going.asked ⊎ (r.ended ≡ true) → whole_requests (going.read.used ++ broken.part) ≡ going.asked

@@ -2,14 +2,16 @@
 use Rattle.std.specs.Prelude.{◌≡◌, ◌⊎◌, ℕ, ◌≤◌, ◌<◌, List, [], ◌∷◌, length, take}
 use Rattle.vec_record.specs.Held.{Rows}
 use Rattle.site_disk.specs.State.{SiteState}
+use Rattle.event_feed.specs.Meanings.{Slots}
 use Rattle.store_image.specs.Stores.{IsSound, records_on}
 use Rattle.session_desk.specs.Session.{acked, rows_after_all}
 use Rattle.session_desk.specs.Courses.{session, values_on, accepted}
 use Rattle.session_desk.specs.Headline.{IsCrash}
 
--- a run: the site at its start, its input, and how many bytes it had said at its end
+-- a run: the site at its start, its watchers, its input, and how many bytes it had said at its end
 pub record Run (S : Type 0) : Type 0 where
   pub start : S
+  pub watchers : Slots
   pub input : List ℕ
   pub said : ℕ
 
@@ -22,7 +24,7 @@ Finds state r c = (state r.start).may_leave c
 
 -- what a run may leave: what it could find, where it said nothing, or what a crash leaves of its session
 abbrev pub MayLeave : {S : Type 0} → (S → SiteState) → Run S → List ℕ → Type 0
-MayLeave state r image = ((r.said ≡ 0) × Finds state r image) ⊎ IsCrash (content_of state r) r.input r.said image
+MayLeave state r image = ((r.said ≡ 0) × Finds state r image) ⊎ IsCrash (content_of state r) r.watchers r.input r.said image
 
 -- a run found one of the contents that it could find, and each of these has P
 pub record Starts {S : Type 0} (state : S → SiteState) (r : Run S) (P : List ℕ → Type 0) : Type 0 where
@@ -55,9 +57,9 @@ pub record GoesThrough {S : Type 0} (state : S → SiteState) (r : Run S) (rows 
   pub rows_before : rows ≡ records_on before
   pub m : ℕ
   pub own : (0 < m) ⊎ (0 < r.said) → before ≡ content_of state r
-  pub some : m ≤ length (accepted (content_of state r) r.input)
-  pub holds : acked r.said (session (content_of state r) r.input).answers ≤ m
-  pub rows_are : next ≡ rows_after_all (values_on (content_of state r)) rows (take m (accepted (content_of state r) r.input))
+  pub some : m ≤ length (accepted (content_of state r) r.watchers r.input)
+  pub holds : acked r.said (session (content_of state r) r.watchers r.input).answers ≤ m
+  pub rows_are : next ≡ rows_after_all (values_on (content_of state r)) rows (take m (accepted (content_of state r) r.watchers r.input))
 
 abbrev pub Grows : {S : Type 0} → (S → SiteState) → List (Run S) → Rows → Rows → Type 0
 Grows state [] first last = last ≡ first

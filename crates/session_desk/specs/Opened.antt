@@ -35,7 +35,7 @@ fault_of store_fault.Memory = Memory
 
 -- the session over a content that a fault refuses
 abbrev pub refusal_course : OpenFault → Course
-refusal_course fault = course_by (Some fault) [] []
+refusal_course fault = course_by (Some fault) [] [] []
 
 -- each image opens as the content of the start does, unless the site failed
 abbrev pub AreOpened : OpenFault → SiteState → SiteState → Type 0

@@ -1,16 +1,14 @@
 -- How lines that are read one by one make a request. The code alone speaks of this.
-use Rattle.std.specs.Prelude.{◌≡◌, ◌⊎◌, ℕ, ◌+◌, ◌≤◌, ◌<◌, if◌then◌else◌, Bool, true, false, List, [], ◌∷◌, ◌++◌, length, Option, Some, None, Result, Ok, Err, codes}
+use Rattle.std.specs.Prelude.{◌≡◌, ◌⊎◌, ℕ, ◌+◌, ◌≤◌, ◌<◌, if◌then◌else◌, true, false, List, [], ◌∷◌, ◌++◌, length, Option, Some, None, Result, Ok, Err, codes}
 use Rattle.std.specs.Str.{bytes_eq}
-use Rattle.std.specs.List.{list_any}
+use Rattle.std.specs.List.{list_any, slice_split}
 use Rattle.session_desk.specs.Input.{is_long}
-use Rattle.session_desk.specs.Session.{Request, Batch, Cut, Ask, body_of}
+use Rattle.session_desk.specs.Session.{Request, Batch, Cut, Ask, body_of, is_space, line_of_words}
 use Rattle.session_desk.specs.Lines.{Reading}
 use Rattle.session_desk.specs.Asking.{IsAsked, asks_behind, whole_behind, is_past, rest_of}
 use Rattle.session_desk.specs.declared.reading.ReadFault.{ReadFault}
 use Rattle.session_desk.specs.declared.reading.ReadFault.TheVariants as fault
 use Rattle.session_desk.specs.declared.requests.Asked.{Asked}
-use Rattle.session_desk.specs.declared.requests.Line.{Line}
-use Rattle.session_desk.specs.declared.requests.Line.TheVariants.{Report, Unknown}
 use Rattle.session_desk.specs.declared.requests.Word.{Word}
 use Rattle.session_desk.specs.declared.requests.Word.TheVariants as word
 use Rattle.session_desk.specs.declared.requests.Body.{Body}
@@ -41,16 +39,12 @@ Faults fault.Source body old left left' = IsBrokenOff body old left left'
 Faults fault.TooMuch body old left left' = (asks_behind body old.room (rest_of old left) ≡ []) × (is_past old.room (rest_of old left) ≡ true)
 Faults fault.Memory body old left left' = Unit {0}
 
--- what a line asks for that isn't long, without its carriage return
-abbrev pub short_line : List ℕ → Line
-short_line line = if bytes_eq line (codes "report") then Report else Unknown
-
 -- the word that a line says, without its carriage return; an empty one says none
 abbrev pub word_of : List ℕ → Option Word
 word_of line =
     if bytes_eq line [] then None
     else if bytes_eq line (codes "batch") then Some word.Batch
-    else Some (word.Line (short_line line))
+    else Some (word.Line (line_of_words (slice_split is_space line)))
 
 -- the end of the input was found, which asks for this where a body is open or none is
 pub record PassesEnd (body : Option (List (List ℕ))) (asked : List Request) (old : Reading) (left : List ℕ) (new : Reading) (left' : List ℕ) : Type 0 where

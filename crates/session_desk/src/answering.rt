@@ -1,156 +1,160 @@
-//! The answer to one request.
-ghost use Rattle.std.specs.Prelude.{◌≡◌, ◌≤◌, ◌++◌, ◌⊎◌, ℕ, List, Bool, true, false, Ok, Err, None};
-ghost use Rattle.std.specs.Prelude.{IsTrue, IfOk, IfErr, OnOk, length};
-ghost use Rattle.site_disk.specs.Causes.{Rose};
-ghost use Rattle.site_disk.specs.State.{Safe, Joins};
-ghost use Rattle.page_gate.specs.Promises.{Holds};
-ghost use Rattle.session_desk.specs.Session.{Request, refuses, body_of};
-ghost use Rattle.session_desk.specs.Answers.{refusal_line as line_of_refusal};
-ghost use Rattle.session_desk.specs.Asking.{IsAsked};
-ghost use Rattle.session_desk.specs.Talks.{IsServing, IsJudged, IsAnswered, Answering};
+//! The answers to the lines outside of batches.
+ghost use Rattle.std.specs.Prelude.{◌≡◌, ◌++◌, ◌≤◌, ℕ, List, false, None, IfOk, OnOk, length};
+ghost use Rattle.plain_dbscan.specs.Texts.{report_text as text_of_report};
+ghost use Rattle.plain_dbscan.specs.Texts.{summary_text as text_of_summary};
+ghost use Rattle.event_feed.specs.Meanings.{meanings, slot_at};
+ghost use Rattle.warehouse_core.specs.Batches.{marks_on};
+ghost use Rattle.warehouse_core.specs.Queries.{mark_on, members_of};
+ghost use Rattle.session_desk.specs.Session.{tells, refuses, label_answer, cluster_answer};
+ghost use Rattle.session_desk.specs.Session.{near_answer, watch_answer, drop_answer, ended};
+ghost use Rattle.session_desk.specs.Session.{without_dropped};
+ghost use Rattle.session_desk.specs.Talks.{IsGiven};
 
-use crate::requests::{Asked, Line};
-use crate::status::Status;
-use crate::texts::{refusal_line, report_text};
-use site_disk::Site;
+use crate::texts::{dropped_line, refusal_line};
+use cluster_report::{counts_text, label_text, members_text, near_text, report_text};
+use event_feed::{Watcher, WatcherSlots};
 use std::alloc::AllocError;
 use std::sync::ledger::Ledger;
-use store_image::laws::loads_are_stores;
-use vec_record::{Bytes, Metric, Steps};
-use warehouse_core::{Refusal, Warehouse};
-
-/// The number and the place that a refusal is said with, or the status of a fault.
-fn judge(refusal: Refusal) -> Result<(u32, Option<u32>), Status>
-    ensures { IsJudged refusal result }
-{
-    match refusal {
-        Refusal::Malformed(place) => Ok((11, Some(place))),
-        Refusal::WrongLength(place) => Ok((12, Some(place))),
-        Refusal::Repeated(place) => Ok((13, Some(place))),
-        Refusal::Unknown(place) => Ok((14, Some(place))),
-        Refusal::Full(place) => Ok((15, Some(place))),
-        Refusal::TooManyRecords => Ok((16, None)),
-        Refusal::BatchesUsedUp => Ok((19, None)),
-        Refusal::SiteFault => Err(Status::SiteFault),
-        Refusal::Memory => Err(Status::Memory),
-    }
-}
+use vec_record::{Bytes, Metric, Number, Numbers, Steps};
+use warehouse_core::Warehouse;
 
 /// Appends a refusal; it answers that there was one.
-fn refuse(number: u32, place: Option<u32>, out: &mut Bytes) -> Result<bool, Status>
-    ensures ok { IfOk result (λ refused. (refused ≡ true)
-        × (out.new ≡ out.old ++ line_of_refusal number place)) }
-    ensures err { IfErr result (λ status. status ≡ Status.Memory) }
+pub fn refuse(number: u32, place: Option<u32>, out: &mut Bytes) -> Result<bool, AllocError>
+    ensures { IfOk result (λ refused. IsGiven (refuses number place) refused out.old out.new) }
 {
-    match refusal_line(number, place, out) {
-        Ok(()) => Ok(true),
-        Err(_) => Err(Status::Memory),
-    }
+    refusal_line(number, place, out)?;
+    Ok(true)
 }
 
 /// Appends the report.
-fn report<M: Metric>(warehouse: &Warehouse<M>, out: &mut Bytes) -> Result<bool, Status>
-    requires { IsServing warehouse.now }
-    ensures report { (q : Request) → IsAsked (Asked.Line Line.Report) q
-        → IfOk result (λ refused. IsAnswered warehouse.now q refused warehouse.now out.old
+pub fn report<M: Metric>(warehouse: &Warehouse<M>, out: &mut Bytes) -> Result<bool, AllocError>
+    requires { warehouse.now.failed ≡ false }
+    ensures { IfOk result (λ refused. IsGiven
+        (tells (text_of_report (marks_on warehouse.now.values warehouse.now.rows))) refused out.old
         out.new) }
-    ensures err { IfErr result (λ status. status ≡ Status.Memory) }
 {
-    let Ok(marks) = warehouse.marks() else {
-        return Err(Status::Memory);
-    };
-    match report_text(&marks, out) {
-        Ok(()) => Ok(false),
-        Err(_) => Err(Status::Memory),
-    }
+    report_text(&warehouse.marks()?, out)?;
+    Ok(false)
 }
 
-/// Appends the answer to a line, and tells whether it is a refusal.
-fn answer_line<M: Metric>(
+/// Appends the counts of all records.
+pub fn summary<M: Metric>(warehouse: &Warehouse<M>, out: &mut Bytes) -> Result<bool, AllocError>
+    requires { warehouse.now.failed ≡ false }
+    ensures { IfOk result (λ refused. IsGiven
+        (tells (text_of_summary (marks_on warehouse.now.values warehouse.now.rows))) refused out.old
+        out.new) }
+{
+    counts_text(&warehouse.summary(), out)?;
+    Ok(false)
+}
+
+/// Appends the line of a number.
+pub fn label<M: Metric>(
     warehouse: &Warehouse<M>,
-    line: Line,
+    number: Number,
     out: &mut Bytes,
-) -> Result<bool, Status>
-    requires { IsServing warehouse.now }
-    ensures answered { (q : Request) → IsAsked (Asked.Line line) q
-        → IfOk result (λ refused. IsAnswered warehouse.now q refused warehouse.now out.old
-        out.new) }
-    ensures err { IfErr result (λ status. status ≡ Status.Memory) }
+) -> Result<bool, AllocError>
+    requires { warehouse.now.failed ≡ false }
+    ensures { IfOk result (λ refused. IsGiven
+        (label_answer number (mark_on warehouse.now.values warehouse.now.rows number)) refused
+        out.old out.new) }
 {
-    match line {
-        Line::Report => report(warehouse, out),
-        Line::Unknown => refuse(21, None, out),
-        Line::Long => refuse(18, None, out),
-    }
-}
-
-/// Takes a batch as one step, and appends its receipt or its refusal.
-fn answer_batch<M: Metric, T: Site, L: Ledger>(
-    warehouse: &mut Warehouse<M>,
-    body: &[u8],
-    site: &mut T,
-    out: &mut Bytes,
-    steps: &mut Steps<L>,
-) -> Result<bool, Status>
-    requires serving { IsServing warehouse.old }
-    requires body { length body.now ≤ 67_108_864 }
-    requires ready { IsTrue T.tells → Holds warehouse.old.pages (T.state site.old) }
-    ensures serving { OnOk result (IsServing warehouse.new) }
-    ensures ready { IsTrue T.tells → OnOk result (Holds warehouse.new.pages (T.state site.new)) }
-    ensures answered { (lines : List (List ℕ))
-        → IsAsked (Asked.Batch body.now) (Request.Batch lines)
-        → IfOk result (λ refused. IsAnswered warehouse.old (Request.Batch lines) refused
-        warehouse.new out.old out.new) }
-    ensures moments { IsTrue T.tells → (lines : List (List ℕ))
-        → IsAsked (Asked.Batch body.now) (Request.Batch lines)
-        → Answering warehouse.old (Request.Batch lines) result (T.state site.old)
-        (T.state site.new) }
-    ensures joins { IsTrue T.tells → Joins (T.state site.old) (T.state site.new) }
-    ensures said { IsTrue T.tells → (T.state site.new).said ≡ (T.state site.old).said }
-    ensures status { IfErr result
-        (λ status. (status ≡ Status.SiteFault) ⊎ (status ≡ Status.Memory)) }
-    ensures fault { result ≡ Err Status.SiteFault → Rose (T.faults site.old) (T.faults site.new) }
-    ensures later { T.faults site.old ≤ T.faults site.new }
-{
-    match warehouse.apply(site, body, out, steps) {
-        Ok(()) => Ok(false),
-        Err(refusal) => {
-            let (number, place) = judge(refusal)?;
-            refuse(number, place, out)
+    match warehouse.mark_of(number) {
+        None => refuse(22, None, out),
+        Some(mark) => {
+            label_text(number, mark, out)?;
+            Ok(false)
         }
     }
 }
 
-/// Appends the answer to a request, and tells whether it is a refusal.
-pub fn answer<M: Metric, T: Site, L: Ledger>(
-    warehouse: &mut Warehouse<M>,
-    asked: Asked,
-    site: &mut T,
+/// Appends the members of the cluster with a label.
+pub fn cluster<M: Metric>(
+    warehouse: &Warehouse<M>,
+    label: Number,
+    out: &mut Bytes,
+) -> Result<bool, AllocError>
+    requires { warehouse.now.failed ≡ false }
+    ensures { IfOk result (λ refused. IsGiven
+        (cluster_answer label
+        (members_of label (marks_on warehouse.now.values warehouse.now.rows))) refused out.old
+        out.new) }
+{
+    match warehouse.members(label)? {
+        None => refuse(23, None, out),
+        Some(members) => {
+            members_text(label, &members, out)?;
+            Ok(false)
+        }
+    }
+}
+
+/// Appends the numbers near a number.
+pub fn near<M: Metric, L: Ledger>(
+    warehouse: &Warehouse<M>,
+    number: Number,
     out: &mut Bytes,
     steps: &mut Steps<L>,
-) -> Result<bool, Status>
-    requires serving { IsServing warehouse.old }
-    requires body { (body : List ℕ) → asked ≡ Asked.Batch body → length body ≤ 67_108_864 }
-    requires ready { IsTrue T.tells → Holds warehouse.old.pages (T.state site.old) }
-    ensures serving { OnOk result (IsServing warehouse.new) }
-    ensures ready { IsTrue T.tells → OnOk result (Holds warehouse.new.pages (T.state site.new)) }
-    ensures answered { (q : Request) → IsAsked asked q
-        → IfOk result (λ refused. IsAnswered warehouse.old q refused warehouse.new out.old
-        out.new) }
-    ensures moments { IsTrue T.tells → (q : Request) → IsAsked asked q
-        → Answering warehouse.old q result (T.state site.old) (T.state site.new) }
-    ensures joins { IsTrue T.tells → Joins (T.state site.old) (T.state site.new) }
-    ensures said { IsTrue T.tells → (T.state site.new).said ≡ (T.state site.old).said }
-    ensures status { IfErr result
-        (λ status. (status ≡ Status.SiteFault) ⊎ (status ≡ Status.Memory)) }
-    ensures fault { result ≡ Err Status.SiteFault → Rose (T.faults site.old) (T.faults site.new) }
-    ensures later { T.faults site.old ≤ T.faults site.new }
+) -> Result<bool, AllocError>
+    requires { warehouse.now.failed ≡ false }
+    ensures { IfOk result (λ refused. IsGiven
+        (near_answer warehouse.now.values warehouse.now.rows number) refused out.old out.new) }
 {
-    loads_are_stores();
-    match asked {
-        Asked::Batch(body) => answer_batch(warehouse, body.as_slice(), site, out, steps),
-        Asked::LongBatch => refuse(18, None, out),
-        Asked::Cut => refuse(17, None, out),
-        Asked::Line(line) => answer_line(warehouse, line, out),
+    let mut numbers = Numbers::new(out.allocator());
+    if !warehouse.near(number, &mut numbers, steps)? {
+        return refuse(22, None, out);
     }
+    near_text(number, &numbers, out)?;
+    Ok(false)
+}
+
+/// Ends the last line behind a place, where there is one that isn't ended.
+fn end_line(start: usize, out: &mut Bytes) -> Result<(), AllocError>
+    requires { start ≤ length out.old }
+    ensures { (before said : List ℕ) → out.old ≡ before ++ said → length before ≡ start
+        → OnOk result (out.new ≡ before ++ ended said) }
+{
+    let text = out.as_slice();
+    if start < text.len() && text[text.len() - 1] != b'\n' {
+        out.push(b'\n')?;
+    }
+    Ok(())
+}
+
+/// Appends what the watcher of a slot says.
+pub fn watch<W: Watcher>(
+    feed: &WatcherSlots<W>,
+    slot: u32,
+    out: &mut Bytes,
+) -> Result<bool, AllocError>
+    ensures { IfOk result (λ refused. IsGiven
+        (watch_answer (slot_at slot (meanings W.says_after feed.now.slots.items))) refused out.old
+        out.new) }
+{
+    let start = out.len();
+    if !feed.text_of(slot, out)? {
+        return refuse(24, None, out);
+    }
+    end_line(start, out)?;
+    Ok(false)
+}
+
+/// Drops the watcher of a slot, and appends that it did.
+pub fn drop_watcher<W: Watcher>(
+    feed: &mut WatcherSlots<W>,
+    slot: u32,
+    out: &mut Bytes,
+) -> Result<bool, AllocError>
+    ensures given { IfOk result (λ refused. IsGiven
+        (drop_answer slot (slot_at slot (meanings W.says_after feed.old.slots.items))) refused out.old
+        out.new) }
+    ensures slots { meanings W.says_after feed.new.slots.items ≡ without_dropped
+        (drop_answer slot (slot_at slot (meanings W.says_after feed.old.slots.items))).dropped
+        (meanings W.says_after feed.old.slots.items) }
+{
+    if !feed.drop_one(slot) {
+        return refuse(24, None, out);
+    }
+    dropped_line(slot, out)?;
+    Ok(false)
 }

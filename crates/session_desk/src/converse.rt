@@ -1,87 +1,28 @@
 //! The session over a warehouse that was loaded.
-ghost use Rattle.std.specs.Prelude.{◌≡◌, ◌≤◌, ◌+◌, ◌++◌, ◌⊎◌, ℕ, List, [], false, true, Ok, Err};
-ghost use Rattle.std.specs.Prelude.{IsTrue, IfOk, IfErr, OnOk, length, codes, if◌then◌else◌};
+ghost use Rattle.std.specs.Prelude.{◌≡◌, ◌≤◌, ◌+◌, ◌++◌, ◌⊎◌, ℕ, List, [], false, true};
+ghost use Rattle.std.specs.Prelude.{IsTrue, codes, if◌then◌else◌};
 ghost use Rattle.site_disk.specs.Causes.{Rose};
 ghost use Rattle.site_disk.specs.State.{Safe, Joins};
 ghost use Rattle.page_gate.specs.Promises.{Holds};
-ghost use Rattle.warehouse_core.specs.Applying.{IsBefore};
+ghost use Rattle.event_feed.specs.Meanings.{meanings};
 ghost use Rattle.session_desk.specs.Statuses.{is_fault};
 ghost use Rattle.session_desk.specs.Reading.{IsTaken};
 ghost use Rattle.session_desk.specs.Moments.{IsSaying, LeavesAlone};
-ghost use Rattle.session_desk.specs.Session.{Request};
-ghost use Rattle.session_desk.specs.Asking.{IsAsked};
-ghost use Rattle.session_desk.specs.Talks.{IsServing, IsNextState, answer_on, IsReplying, IsTalk};
+ghost use Rattle.session_desk.specs.Talks.{IsServing, IsTalk, desk_of};
 ghost use Rattle.session_desk.specs.Talks.{Concludes, IsCutOff, IsKept, IsEven};
 
-use crate::answering::answer;
 use crate::lines::LineReader;
 use crate::reading::{INPUT_LIMIT, ReadFault};
-use crate::requests::{Asked, next_request};
+use crate::requests::next_request;
 use crate::saying::say;
+use crate::session::Session;
 use crate::status::Status;
+use event_feed::Watcher;
 use site_disk::{Site, Source};
 use std::alloc::Global;
 use std::sync::ledger::Ledger;
 use store_image::laws::loads_are_stores;
-use vec_record::{Bytes, Metric, Steps};
-use warehouse_core::Warehouse;
-
-/// The state of a session.
-#[derive(Drop)]
-struct Session<M: Metric> {
-    alloc: Global,
-    warehouse: Warehouse<M>,
-}
-
-impl<M: Metric> Session<M> {
-    /// One step: answers a request and says the answer. It tells whether that is a refusal, or the
-    /// status that ends the run.
-    fn step<T: Site, L: Ledger>(
-        &mut self,
-        asked: Asked,
-        site: &mut T,
-        steps: &mut Steps<L>,
-    ) -> Result<bool, Status>
-        requires serving { IsServing self.old.warehouse }
-        requires body { (body : List ℕ) → asked ≡ Asked.Batch body → length body ≤ 67_108_864 }
-        requires ready { IsTrue T.tells → Holds self.old.warehouse.pages (T.state site.old) }
-        ensures serving { OnOk result (IsServing self.new.warehouse) }
-        ensures ready { IsTrue T.tells
-            → OnOk result (Holds self.new.warehouse.pages (T.state site.new)) }
-        ensures state { (q : Request) → IsAsked asked q
-            → OnOk result (IsNextState self.old.warehouse (answer_on self.old.warehouse q)
-            self.new.warehouse) }
-        ensures refused { (q : Request) → IsAsked asked q
-            → IfOk result (λ refused. refused ≡ (answer_on self.old.warehouse q).refused) }
-        ensures said { IsTrue T.tells → (q : Request) → IsAsked asked q
-            → OnOk result ((T.state site.new).said
-            ≡ (T.state site.old).said ++ (answer_on self.old.warehouse q).text) }
-        ensures moments { IsTrue T.tells → (q : Request) → IsAsked asked q
-            → Safe (T.state site.old) (T.state site.new)
-            (IsReplying self.old.warehouse q (T.state site.old)) }
-        ensures unsaved { IsTrue T.tells → (q : Request) → IsAsked asked q → result
-            ≡ Err Status.Memory → (c : List ℕ) → (T.state site.new).may_leave c
-            → IsBefore self.old.warehouse c }
-        ensures unsaid { IsTrue T.tells → result ≡ Err Status.Memory → (T.state site.new).said
-            ≡ (T.state site.old).said }
-        ensures joins { IsTrue T.tells → Joins (T.state site.old) (T.state site.new) }
-        ensures begins { IsTrue T.tells → (more : List ℕ)
-            × ((T.state site.new).said ≡ (T.state site.old).said ++ more) }
-        ensures status { IfErr result
-            (λ status. (status ≡ Status.SiteFault) ⊎ (status ≡ Status.Memory)) }
-        ensures fault { result ≡ Err Status.SiteFault
-            → Rose (T.faults site.old) (T.faults site.new) }
-        ensures later { T.faults site.old ≤ T.faults site.new }
-    {
-        loads_are_stores();
-        let mut text = Bytes::new(self.alloc);
-        let refused = answer(&mut self.warehouse, asked, site, &mut text, steps)?;
-        match site.say(text.as_slice()) {
-            Ok(()) => Ok(refused),
-            Err(_) => Err(Status::SiteFault),
-        }
-    }
-}
+use vec_record::{Metric, Steps};
 
 /// The status of a session whose input came to its end.
 fn end_of(refused: bool) -> Status
@@ -121,28 +62,32 @@ fn break_off<T: Site>(site: &mut T, fault: ReadFault) -> Status
 }
 
 /// Answers the requests of an input, one by one.
-pub fn converse<M: Metric, S: Source, T: Site, L: Ledger>(
+pub fn converse<M: Metric, W: Watcher, S: Source, T: Site, L: Ledger>(
     alloc: Global,
-    warehouse: Warehouse<M>,
+    mut session: Session<M, W>,
     source: &mut S,
     site: &mut T,
     steps: &mut Steps<L>,
 ) -> Status
-    requires serving { IsServing warehouse }
-    requires ready { IsTrue T.tells → Holds warehouse.pages (T.state site.old) }
-    ensures answers { IsTrue S.tells → IsTrue T.tells → is_fault result ≡ false
-        → Concludes warehouse (S.left source.old) result (T.state site.old) (T.state site.new) }
-    ensures whole { IsTrue S.tells → IsTrue T.tells → result ≡ Status.SourceFault
-        → IsCutOff warehouse (S.left source.old) (S.left source.new) (T.state site.old)
-        (T.state site.new) }
+    requires serving { IsServing session.warehouse }
+    requires ready { IsTrue T.tells → Holds session.warehouse.pages (T.state site.old) }
+    ensures answers { IsTrue S.tells → IsTrue T.tells → is_fault result ≡ false → Concludes
+        (desk_of session.warehouse (meanings W.says_after session.feed.slots.items))
+        (S.left source.old) result (T.state site.old) (T.state site.new) }
+    ensures whole { IsTrue S.tells → IsTrue T.tells → result ≡ Status.SourceFault → IsCutOff
+        (desk_of session.warehouse (meanings W.says_after session.feed.slots.items))
+        (S.left source.old) (S.left source.new) (T.state site.old) (T.state site.new) }
     ensures moments { IsTrue S.tells → IsTrue T.tells
-        → Safe (T.state site.old) (T.state site.new)
-        (IsTalk warehouse (S.left source.old) (T.state site.old)) }
-    ensures end { IsTrue S.tells → IsTrue T.tells → is_fault result ≡ false
-        → IsKept warehouse (S.left source.old) (T.state site.new) }
+        → Safe (T.state site.old) (T.state site.new) (IsTalk
+        (desk_of session.warehouse (meanings W.says_after session.feed.slots.items))
+        (S.left source.old) (T.state site.old)) }
+    ensures end { IsTrue S.tells → IsTrue T.tells → is_fault result ≡ false → IsKept
+        (desk_of session.warehouse (meanings W.says_after session.feed.slots.items))
+        (S.left source.old) (T.state site.new) }
     ensures settled { IsTrue S.tells → IsTrue T.tells → (result ≡ Status.SourceFault)
-        ⊎ (result ≡ Status.Memory)
-        → IsEven warehouse (S.left source.old) (T.state site.old) (T.state site.new) }
+        ⊎ (result ≡ Status.Memory) → IsEven
+        (desk_of session.warehouse (meanings W.says_after session.feed.slots.items))
+        (S.left source.old) (T.state site.old) (T.state site.new) }
     ensures status { (result ≡ Status.Fine) ⊎ (result ≡ Status.Refused) ⊎ (result ≡ Status.TooLong)
         ⊎ (is_fault result ≡ true) }
     ensures site { result ≡ Status.SiteFault → Rose (T.faults site.old) (T.faults site.new) }
@@ -162,7 +107,6 @@ pub fn converse<M: Metric, S: Source, T: Site, L: Ledger>(
     let Ok(mut reader) = LineReader::new(alloc) else {
         return Status::Memory;
     };
-    let mut session = Session { alloc, warehouse };
     let mut refused = false;
     'turns: loop {
         match next_request(alloc, &mut reader, source) {

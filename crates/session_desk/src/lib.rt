@@ -15,6 +15,7 @@ mod reading;
 mod requests;
 mod saying;
 mod serve;
+mod session;
 pub mod status;
 mod texts;
 pub mod top;

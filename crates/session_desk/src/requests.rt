@@ -2,24 +2,38 @@
 
 ghost use Rattle.std.specs.Prelude.{◌≡◌, ◌≤◌, ◌<◌, ℕ, List, [], ◌∷◌, ◌++◌, length, true, false};
 ghost use Rattle.std.specs.Prelude.{IsTrue, IsErrOf, IfOk, IsSome, OnOk, Ok, Some, codes};
+ghost use Rattle.std.specs.List.{slice_split};
 ghost use Rattle.std.specs.Str.{bytes_eq};
 ghost use Rattle.site_disk.specs.Causes.{Rose};
 ghost use Rattle.session_desk.specs.Lines.{HasSource, IsUnfinished, raw_line};
 ghost use Rattle.session_desk.specs.Asking.{Asks};
-ghost use Rattle.session_desk.specs.Passing.{word_of as word_said, short_line, OneWord, Words};
+ghost use Rattle.session_desk.specs.Session.{line_of_words, line_of_word, line_with, is_space};
+ghost use Rattle.session_desk.specs.Passing.{word_of as word_said, OneWord, Words};
 ghost use Rattle.session_desk.specs.Passing.{HasLines, OneInBody, Bodies, HasRoom, KeepsRoom};
 ghost use Rattle.session_desk.specs.Passing.{ShrinksBy, ShrinksOver, ShrinksOverAny};
 
 use crate::lines::{LineReader, SessionLine};
 use crate::reading::ReadFault;
+use batch_text::number::number_within;
 use site_disk::Source;
 use std::alloc::{AllocError, Global};
-use vec_record::Bytes;
+use vec_record::{Bytes, Number};
 
 /// What a line outside of a batch asks for.
 #[derive(Clone, Copy, Drop)]
 pub(crate) enum Line {
     Report,
+    Summary,
+    /// The line of a number in the report.
+    Label(Number),
+    /// The members of the cluster with a label.
+    Cluster(Number),
+    /// The numbers near a number.
+    Near(Number),
+    /// What the watcher of a slot says.
+    Watch(u32),
+    /// That the watcher of a slot is dropped.
+    Drop(u32),
     /// A line that says nothing that is known.
     Unknown,
     /// A line of over 4,096 bytes.
@@ -159,10 +173,44 @@ fn word_of(line: &[u8]) -> Option<Word>
 
 /// What a line asks for that isn't long.
 fn line_of(line: &[u8]) -> Line
-    ensures { result ≡ short_line line.now }
+    ensures { result ≡ line_of_words (slice_split is_space line.now) }
 {
-    if line == b"report".as_slice() {
+    match line.iter().position(|b| *b == b' ') {
+        None => plain_line(line),
+        Some(at) => match number_within(&line[at + 1..], 1, u32::MAX) {
+            None => Line::Unknown,
+            Some(number) => numbered_line(&line[..at], number),
+        },
+    }
+}
+
+/// What one word asks for.
+fn plain_line(word: &[u8]) -> Line
+    ensures { result ≡ line_of_word word.now }
+{
+    if word == b"report".as_slice() {
         Line::Report
+    } else if word == b"summary".as_slice() {
+        Line::Summary
+    } else {
+        Line::Unknown
+    }
+}
+
+/// What a word asks for with a number behind it.
+fn numbered_line(word: &[u8], number: u32) -> Line
+    ensures { result ≡ line_with word.now (Some number) }
+{
+    if word == b"label".as_slice() {
+        Line::Label(number)
+    } else if word == b"cluster".as_slice() {
+        Line::Cluster(number)
+    } else if word == b"near".as_slice() {
+        Line::Near(number)
+    } else if word == b"watch".as_slice() {
+        Line::Watch(number)
+    } else if word == b"drop".as_slice() {
+        Line::Drop(number)
     } else {
         Line::Unknown
     }

@@ -6,18 +6,22 @@ ghost use Rattle.site_disk.specs.State.{Safe, Joins};
 ghost use Rattle.page_gate.specs.Promises.{Holds, HasFault};
 ghost use Rattle.page_layout.specs.Heads.{Values};
 ghost use Rattle.store_image.specs.Loading.{load_of, Fails};
+ghost use Rattle.event_feed.specs.Meanings.{meanings, filled};
 ghost use Rattle.session_desk.specs.Moments.{IsSaying};
 ghost use Rattle.session_desk.specs.Statuses.{is_fault};
 ghost use Rattle.session_desk.specs.Reading.{IsTaken};
 ghost use Rattle.session_desk.specs.Headline.{Serves, IsComplete, LeavesUnopened};
 ghost use Rattle.session_desk.specs.Talks.{IsServing, IsTalk, Concludes, IsCutOff, IsKept, IsEven};
+ghost use Rattle.session_desk.specs.Talks.{desk_of};
 ghost use Rattle.session_desk.specs.Opened.{state_of, is_outside, fault_of as fault_said};
 ghost use Rattle.session_desk.specs.Opened.{refusal_course, IsLoaded, Loads};
 
 use crate::converse::converse;
 use crate::reading::INPUT_LIMIT;
 use crate::saying::say;
+use crate::session::Session;
 use crate::status::Status;
+use event_feed::{Feed, Watcher, WatcherSlots};
 use int_metric::{Hamming, L1, Max};
 use page_gate::{OpenFault, Pages, open_pages};
 use site_disk::{Site, Source};
@@ -126,30 +130,35 @@ fn say_fault<T: Site>(alloc: Global, site: &mut T, fault: OpenFault) -> Status
     }
 }
 
-/// Answers the requests of an input over a warehouse of any metric.
-fn converse_by_metric<S: Source, T: Site, L: Ledger>(
+/// Answers the requests of an input over a warehouse of any metric, with watchers that are told
+/// the events of its batches.
+fn converse_by_metric<W: Watcher, S: Source, T: Site, L: Ledger>(
     alloc: Global,
     warehouse: AnyWarehouse,
+    feed: WatcherSlots<W>,
     source: &mut S,
     site: &mut T,
     steps: &mut Steps<L>,
 ) -> Status
     requires serving { IsServing (state_of warehouse) }
     requires ready { IsTrue T.tells → Holds (state_of warehouse).pages (T.state site.old) }
-    ensures answers { IsTrue S.tells → IsTrue T.tells → is_fault result ≡ false
-        → Concludes (state_of warehouse) (S.left source.old) result (T.state site.old)
-        (T.state site.new) }
-    ensures whole { IsTrue S.tells → IsTrue T.tells → result ≡ Status.SourceFault
-        → IsCutOff (state_of warehouse) (S.left source.old) (S.left source.new) (T.state site.old)
-        (T.state site.new) }
+    ensures answers { IsTrue S.tells → IsTrue T.tells → is_fault result ≡ false → Concludes
+        (desk_of (state_of warehouse) (meanings W.says_after feed.slots.items)) (S.left source.old)
+        result (T.state site.old) (T.state site.new) }
+    ensures whole { IsTrue S.tells → IsTrue T.tells → result ≡ Status.SourceFault → IsCutOff
+        (desk_of (state_of warehouse) (meanings W.says_after feed.slots.items)) (S.left source.old)
+        (S.left source.new) (T.state site.old) (T.state site.new) }
     ensures moments { IsTrue S.tells → IsTrue T.tells
-        → Safe (T.state site.old) (T.state site.new)
-        (IsTalk (state_of warehouse) (S.left source.old) (T.state site.old)) }
-    ensures end { IsTrue S.tells → IsTrue T.tells → is_fault result ≡ false
-        → IsKept (state_of warehouse) (S.left source.old) (T.state site.new) }
+        → Safe (T.state site.old) (T.state site.new) (IsTalk
+        (desk_of (state_of warehouse) (meanings W.says_after feed.slots.items)) (S.left source.old)
+        (T.state site.old)) }
+    ensures end { IsTrue S.tells → IsTrue T.tells → is_fault result ≡ false → IsKept
+        (desk_of (state_of warehouse) (meanings W.says_after feed.slots.items)) (S.left source.old)
+        (T.state site.new) }
     ensures settled { IsTrue S.tells → IsTrue T.tells → (result ≡ Status.SourceFault)
-        ⊎ (result ≡ Status.Memory)
-        → IsEven (state_of warehouse) (S.left source.old) (T.state site.old) (T.state site.new) }
+        ⊎ (result ≡ Status.Memory) → IsEven
+        (desk_of (state_of warehouse) (meanings W.says_after feed.slots.items)) (S.left source.old)
+        (T.state site.old) (T.state site.new) }
     ensures status { (result ≡ Status.Fine) ⊎ (result ≡ Status.Refused) ⊎ (result ≡ Status.TooLong)
         ⊎ (is_fault result ≡ true) }
     ensures site { result ≡ Status.SiteFault → Rose (T.faults site.old) (T.faults site.new) }
@@ -166,26 +175,64 @@ fn converse_by_metric<S: Source, T: Site, L: Ledger>(
     ensures site_later { T.faults site.old ≤ T.faults site.new }
 {
     match warehouse {
-        AnyWarehouse::L1(warehouse) => converse(alloc, warehouse, source, site, steps),
-        AnyWarehouse::Max(warehouse) => converse(alloc, warehouse, source, site, steps),
-        AnyWarehouse::Hamming(warehouse) => converse(alloc, warehouse, source, site, steps),
+        AnyWarehouse::L1(warehouse) => {
+            converse(
+                alloc,
+                Session {
+                    alloc,
+                    warehouse,
+                    feed,
+                },
+                source,
+                site,
+                steps,
+            )
+        }
+        AnyWarehouse::Max(warehouse) => {
+            converse(
+                alloc,
+                Session {
+                    alloc,
+                    warehouse,
+                    feed,
+                },
+                source,
+                site,
+                steps,
+            )
+        }
+        AnyWarehouse::Hamming(warehouse) => {
+            converse(
+                alloc,
+                Session {
+                    alloc,
+                    warehouse,
+                    feed,
+                },
+                source,
+                site,
+                steps,
+            )
+        }
     }
 }
 
 /// Opens the store and runs the session of the input.
-pub fn serve<S: Source, T: Site, L: Ledger>(
+fn serve_slots<W: Watcher, S: Source, T: Site, L: Ledger>(
     alloc: Global,
+    feed: WatcherSlots<W>,
     source: &mut S,
     site: &mut T,
     steps: &mut Steps<L>,
 ) -> Status
     ensures serves { IsTrue S.tells → IsTrue T.tells
-        → Serves (S.left source.old) (S.left source.new) result
-        (T.state site.old) (T.state site.new) }
+        → Serves (meanings W.says_after feed.slots.items) (S.left source.old) (S.left source.new)
+        result (T.state site.old) (T.state site.new) }
     ensures complete { IsTrue S.tells → IsTrue T.tells
         → (Rose (S.faults source.old) (S.faults source.new) → ⊥)
         → (Rose (T.faults site.old) (T.faults site.new) → ⊥)
-        → IsComplete (S.left source.old) result (T.state site.old) }
+        → IsComplete (meanings W.says_after feed.slots.items) (S.left source.old) result
+        (T.state site.old) }
     ensures unopened { IsTrue T.tells
         → LeavesUnopened result (T.state site.old) (T.state site.new) }
     ensures known { result ≡ Status.Words → ⊥ }
@@ -204,7 +251,47 @@ pub fn serve<S: Source, T: Site, L: Ledger>(
 {
     same_openings_are_alike();
     match begin(alloc, site, steps) {
-        Ok(warehouse) => converse_by_metric(alloc, warehouse, source, site, steps),
+        Ok(warehouse) => converse_by_metric(alloc, warehouse, feed, source, site, steps),
         Err(fault) => say_fault(alloc, site, fault),
+    }
+}
+
+/// Opens the store and runs the session of the input with these watchers. Over a store that doesn't
+/// open they are dropped.
+pub fn serve<S: Source, T: Site, L: Ledger>(
+    alloc: Global,
+    source: &mut S,
+    site: &mut T,
+    watchers: Vec<Box<dyn Watcher>>,
+    steps: &mut Steps<L>,
+) -> Status
+    ensures serves { IsTrue S.tells → IsTrue T.tells
+        → Serves (filled ⟦<Box<dyn Watcher> as Watcher>⟧.says_after watchers.items)
+        (S.left source.old) (S.left source.new) result (T.state site.old) (T.state site.new) }
+    ensures complete { IsTrue S.tells → IsTrue T.tells
+        → (Rose (S.faults source.old) (S.faults source.new) → ⊥)
+        → (Rose (T.faults site.old) (T.faults site.new) → ⊥)
+        → IsComplete (filled ⟦<Box<dyn Watcher> as Watcher>⟧.says_after watchers.items)
+        (S.left source.old) result (T.state site.old) }
+    ensures unopened { IsTrue T.tells
+        → LeavesUnopened result (T.state site.old) (T.state site.new) }
+    ensures known { result ≡ Status.Words → ⊥ }
+    ensures site { result ≡ Status.SiteFault → Rose (T.faults site.old) (T.faults site.new) }
+    ensures source { result ≡ Status.SourceFault
+        → Rose (S.faults source.old) (S.faults source.new) }
+    ensures joins { IsTrue T.tells → Joins (T.state site.old) (T.state site.new) }
+    ensures begins { IsTrue T.tells → (more : List ℕ)
+        × ((T.state site.new).said ≡ (T.state site.old).said ++ more) }
+    ensures taken { IsTrue S.tells
+        → IsTaken (INPUT_LIMIT + 1) (S.left source.old) (S.left source.new) }
+    ensures ended { IsTrue S.tells → (result ≡ Status.Fine) ⊎ (result ≡ Status.Refused)
+        → S.left source.new ≡ [] }
+    ensures source_later { S.faults source.old ≤ S.faults source.new }
+    ensures site_later { T.faults site.old ≤ T.faults site.new }
+{
+    same_openings_are_alike();
+    match Feed::new(alloc, watchers) {
+        Ok(feed) => serve_slots(alloc, feed, source, site, steps),
+        Err(_) => Status::Memory,
     }
 }

@@ -3,6 +3,8 @@
 ghost use Rattle.std.specs.Prelude.{◌≡◌};
 ghost use Rattle.session_desk.specs.Statuses.{status_number};
 
+use std::alloc::AllocError;
+
 /// How a run ended. The process ends with the number of the status, which is its place in this list
 /// from 0.
 #[derive(Clone, Copy, Debug, PartialEq, Eq)]
@@ -26,5 +28,15 @@ impl Status {
         ensures { result ≡ status_number self }
     {
         self as u8
+    }
+}
+
+impl From<AllocError> for Status {
+    ghost use Rattle.session_desk.specs.declared.status.Status.TheVariants.{Memory};
+
+    ghost from_gives = { λ error status. status ≡ Memory };
+
+    fn from(_error: AllocError) -> Status {
+        Status::Memory
     }
 }

@@ -6,6 +6,7 @@ ghost use Rattle.site_disk.specs.Causes.{Rose};
 ghost use Rattle.site_disk.specs.State.{Safe, Joins};
 ghost use Rattle.page_gate.specs.Gate.{is_blank};
 ghost use Rattle.page_layout.specs.Heads.{Values};
+ghost use Rattle.event_feed.specs.Meanings.{filled};
 ghost use Rattle.session_desk.specs.Moments.{Says, LeavesAlone};
 ghost use Rattle.session_desk.specs.Statuses.{is_fault};
 ghost use Rattle.session_desk.specs.Words.{Init, Serve, setting_of, command_of, asks_store};
@@ -21,6 +22,7 @@ use crate::saying::say;
 use crate::serve::serve;
 use crate::status::Status;
 use crate::words::{Task, read_words};
+use event_feed::Watcher;
 use site_disk::{Site, Source};
 use std::alloc::Global;
 use std::sync::ledger::Ledger;
@@ -29,7 +31,8 @@ use vec_record::Steps;
 const USAGE: &[u8] =
     b"usage: once METRIC DIM EPS MINPTS, init METRIC DIM EPS MINPTS CAP, serve, check, trial SEED COUNT\n";
 
-/// Runs the program: the words after its name, the input, and the site that answers go to.
+/// Runs the program: the words after its name, the input, the site that answers go to, and the
+/// watchers of a session, in the slots from 1 on.
 ///
 /// The words are judged before anything is read; then the store, where they ask for one; then the
 /// length of the input, and its records. After a fault of the site or the source, or want of
@@ -39,19 +42,21 @@ pub fn run<S: Source, T: Site, L: Ledger>(
     words: &[String],
     source: &mut S,
     site: &mut T,
+    watchers: Vec<Box<dyn Watcher>>,
     steps: &mut Steps<L>,
 ) -> Status
     // `serve`, the headline: answers, crash and end. Completeness: where no count of faults rose,
     // the status is the session's, or memory was wanting.
     ensures serves { IsTrue S.tells → IsTrue T.tells
         → command_of (map string_bytes words.now) ≡ Some Serve
-        → Serves (S.left source.old) (S.left source.new) result
+        → Serves (filled ⟦<Box<dyn Watcher> as Watcher>⟧.says_after watchers.items) (S.left source.old) (S.left source.new) result
         (T.state site.old) (T.state site.new) }
     ensures complete { IsTrue S.tells → IsTrue T.tells
         → command_of (map string_bytes words.now) ≡ Some Serve
         → (Rose (S.faults source.old) (S.faults source.new) → ⊥)
         → (Rose (T.faults site.old) (T.faults site.new) → ⊥)
-        → IsComplete (S.left source.old) result (T.state site.old) }
+        → IsComplete (filled ⟦<Box<dyn Watcher> as Watcher>⟧.says_after watchers.items) (S.left source.old) result
+        (T.state site.old) }
     ensures unopened { IsTrue T.tells → command_of (map string_bytes words.now) ≡ Some Serve
         → LeavesUnopened result (T.state site.old) (T.state site.new) }
     ensures ended { IsTrue S.tells → command_of (map string_bytes words.now) ≡ Some Serve
@@ -131,6 +136,6 @@ pub fn run<S: Source, T: Site, L: Ledger>(
         None => say(site, Status::Words, USAGE),
         Some(Task::Once(params)) => run_once(alloc, &params, source, site, steps),
         Some(Task::Init(params)) => init(alloc, &params, site),
-        Some(Task::Serve) => serve(alloc, source, site, steps),
+        Some(Task::Serve) => serve(alloc, source, site, watchers, steps),
     }
 }

@@ -2,6 +2,7 @@
 
 ghost use Rattle.std.specs.Prelude.{◌≡◌, ◌<◌};
 
+use event_feed::{LastHundred, Tally, Watcher};
 use session_desk::{Status, run};
 use site_disk::{MemSite, MemSource};
 use std::alloc::{AllocError, Global};
@@ -13,7 +14,9 @@ use vec_record::{Bytes, Numbers, Steps};
 mod crashes;
 mod lines;
 mod lives;
+mod questions;
 mod stores;
+mod watching;
 
 const USAGE: &str =
     "usage: once METRIC DIM EPS MINPTS, init METRIC DIM EPS MINPTS CAP, serve, check, trial SEED COUNT\n";
@@ -23,6 +26,7 @@ fn run_with<L: Ledger>(
     words: &[String],
     source: &mut MemSource,
     site: &mut MemSite,
+    watchers: Vec<Box<dyn Watcher>>,
     blank: Blank,
 ) -> Status
     requires name { blank.name ≡ L.name }
@@ -30,7 +34,7 @@ fn run_with<L: Ledger>(
     requires some { 0 < blank.parts }
 {
     let mut steps = Steps::<L>::new(rt, blank);
-    run(rt.alloc(), words, source, site, &mut steps)
+    run(rt.alloc(), words, source, site, watchers, &mut steps)
 }
 
 /// How a run ended, and what stands after it.
@@ -43,13 +47,29 @@ struct Outcome {
     wants: u64,
 }
 
+/// Runs the program with these watchers.
+fn run_watched(
+    rt: &HostRuntime,
+    words: &[String],
+    source: &mut MemSource,
+    site: &mut MemSite,
+    watchers: Vec<Box<dyn Watcher>>,
+) -> Status {
+    run_with::<Brand>(rt, words, source, site, watchers, Blank::new(1))
+}
+
+/// Runs the program with the watchers that it has.
 fn run_in_memory(
     rt: &HostRuntime,
     words: &[String],
     source: &mut MemSource,
     site: &mut MemSite,
-) -> Status {
-    run_with::<Brand>(rt, words, source, site, Blank::new(1))
+) -> Result<Status, AllocError> {
+    let alloc = rt.alloc();
+    let mut watchers: Vec<Box<dyn Watcher>> = Vec::with_capacity(alloc, 2)?;
+    watchers.push(Box::new(alloc, Tally::new())?)?;
+    watchers.push(Box::new(alloc, LastHundred::new(alloc)?)?)?;
+    Ok(run_watched(rt, words, source, site, watchers))
 }
 
 fn ended(
@@ -79,7 +99,7 @@ fn run_on(
     let words = words_of(alloc, words)?;
     let mut source = MemSource::new(input, piece.max(1), failing(alloc, fails.0)?);
     let mut site = MemSite::new(Bytes::new(alloc), failing(alloc, fails.1)?, None);
-    let status = run_in_memory(rt, &words, &mut source, &mut site);
+    let status = run_in_memory(rt, &words, &mut source, &mut site)?;
     ended(alloc, status, &source, &site)
 }
 

@@ -30,7 +30,7 @@ fn run_on_site(
     let words = words_of(alloc, words)?;
     let input = bytes_of(alloc, input.as_bytes())?;
     let mut source = MemSource::new(input, cuts.0.max(1), failing(alloc, cuts.1)?);
-    Ok(run_in_memory(rt, &words, &mut source, site))
+    run_in_memory(rt, &words, &mut source, site)
 }
 
 fn device(

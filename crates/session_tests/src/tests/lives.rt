@@ -7,7 +7,7 @@ use std::test::Fail;
 use vec_record::{Bytes, Numbers};
 
 /// The words and the input of a run, and its status and what it says.
-type Turn = (&'static str, &'static str, Status, &'static str);
+pub type Turn = (&'static str, &'static str, Status, &'static str);
 
 /// Each life begins with a blank file.
 const LIVES: [&[Turn]; 14] = [
@@ -177,7 +177,7 @@ const LIVES: [&[Turn]; 14] = [
         ),
         (
             "serve",
-            "report\nsummary\nreport now\n Report\nbatch\n+,2,1\nend",
+            "report\nsummaries\nreport now\n Report\nbatch\n+,2,1\nend",
             Status::Refused,
             "1 noise\nrecords 1 cores 0 borders 0 noise 1 clusters 0\nrefused 21\nrefused 21\n\
             refused 21\n\
@@ -268,7 +268,7 @@ fn run_over(
     let input = bytes_of(alloc, turn.1.as_bytes())?;
     let mut source = MemSource::new(input, piece.max(1), Numbers::new(alloc));
     let mut site = MemSite::new(content, Numbers::new(alloc), None);
-    let status = run_in_memory(rt, &words, &mut source, &mut site);
+    let status = run_in_memory(rt, &words, &mut source, &mut site)?;
     let end = ended(alloc, status, &source, &site)?;
     Ok((end, bytes_of(alloc, site.content())?))
 }
@@ -280,7 +280,7 @@ fn is_due(turn: &Turn, end: &Outcome) -> bool {
 }
 
 /// The place of the first turn of a life that ends otherwise, with what it says.
-fn live(
+pub fn first_undue(
     rt: &HostRuntime,
     turns: &[Turn],
     piece: usize,
@@ -301,7 +301,7 @@ fn live(
 fn lives(rt: HostRuntime) -> Result<(), Fail> {
     for (number, turns) in LIVES.iter().enumerate() {
         for piece in [7usize, 4096] {
-            if let Some((place, end)) = live(&rt, turns, piece)? {
+            if let Some((place, end)) = first_undue(&rt, turns, piece)? {
                 assert_eq!(rt;
                     String::from_utf8_lossy(rt.alloc(), &end.said)?.as_str(),
                     "",

@@ -12,7 +12,7 @@ fn new_store(rt: &HostRuntime) -> Result<Bytes, AllocError> {
     let words = words_of(alloc, "init l1 1 1 2 100")?;
     let mut source = MemSource::new(Bytes::new(alloc), 1, Numbers::new(alloc));
     let mut site = MemSite::new(Bytes::new(alloc), Numbers::new(alloc), None);
-    let _ = run_in_memory(rt, &words, &mut source, &mut site);
+    let _ = run_in_memory(rt, &words, &mut source, &mut site)?;
     bytes_of(alloc, site.content())
 }
 
@@ -37,7 +37,7 @@ fn run_on_file(
     let alloc = rt.alloc();
     let words = words_of(alloc, words)?;
     let mut source = MemSource::new(input, 4096, Numbers::new(alloc));
-    let status = run_in_memory(rt, &words, &mut source, &mut site);
+    let status = run_in_memory(rt, &words, &mut source, &mut site)?;
     Ok((status, bytes_of(alloc, site.said())?))
 }
 

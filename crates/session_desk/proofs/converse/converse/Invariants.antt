@@ -1,13 +1,16 @@
 use Rattle.std.proofs.Common.{◌≡◌, ◌≤◌, ◌++◌, List, ℕ, false, IsTrue}
 use Rattle.site_disk.specs.State.{Joins}
 use Rattle.page_gate.specs.Promises.{Holds}
-use Rattle.session_desk.specs.Talks.{IsServing, IsGoing}
+use Rattle.event_feed.specs.Meanings.{meanings}
+use Rattle.session_desk.specs.Talks.{desk_of, IsServing, IsGoing}
 use Rattle.session_desk.proofs.converse.converse.Given as goal
 
 -- what was read so far is answered and said
 abbrev pub invariant-turns : goal.invariant-turns
 invariant-turns g l = record {
-  going : IsTrue g.S.Source.tells → IsGoing g.T.Site.tells l.fn.warehouse (g.S.Source.left l.fn.source) (g.T.Site.state l.fn.site) l.refused l.session.warehouse l.reader (g.S.Source.left l.source) (g.T.Site.state l.site);
+  going : IsTrue g.S.Source.tells
+      → IsGoing g.T.Site.tells (desk_of l.fn.session.warehouse (meanings g.W.Watcher.says_after l.fn.session.feed.slots.items)) (g.S.Source.left l.fn.source) (g.T.Site.state l.fn.site) l.refused
+      (desk_of l.session.warehouse (meanings g.W.Watcher.says_after l.session.feed.slots.items)) l.reader (g.S.Source.left l.source) (g.T.Site.state l.site);
   serving : IsServing l.session.warehouse;
   ready : IsTrue g.T.Site.tells → Holds l.session.warehouse.pages (g.T.Site.state l.site);
   joins : IsTrue g.T.Site.tells → Joins (g.T.Site.state l.fn.site) (g.T.Site.state l.site);

@@ -1,5 +1,5 @@
 use Rattle.std.proofs.Common.{map, string_bytes, sym, ap, subst}
-use Rattle.std.specs.Prelude.{Option, Some, None}
+use Rattle.std.specs.Prelude.{Option, Some}
 use Rattle.session_desk.specs.declared.words.Task.{Task}
 use Rattle.session_desk.specs.Settings.{IsTask}
 use Rattle.session_desk.specs.Words.{Setting, setting_of, command_of}
