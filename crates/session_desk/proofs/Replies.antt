@@ -23,14 +23,14 @@ use Rattle.session_desk.specs.Input.{is_long}
 use Rattle.session_desk.specs.Answers.{refusal_line}
 use Rattle.session_desk.specs.Session.{Request, Batch, Answer, batch_answer, refuses, body_of}
 use Rattle.session_desk.specs.Asking.{IsAsked}
-use Rattle.session_desk.specs.Talks.{Desk, desk_of, desk_behind, IsServing, answer_on, IsStoreOf, IsGiven, IsAnswered, Answering, IsReplying}
+use Rattle.session_desk.specs.Talks.{Desk, desk_at, desk_behind, IsServing, answer_on, IsStoreOf, IsGiven, IsAnswered, Answering, IsReplying}
 use Rattle.session_desk.proofs.Going.{safe_as}
 
 -- the answer to a batch that was read
-batch-answer-is : (w : State) (slots : Slots) (lines : List (List ℕ)) (body : List ℕ) → list_any is_long lines ≡ false → body ≡ body_of lines → answer_on (desk_of w slots) (Batch lines) ≡ batch_answer w.values (desk_of w slots).state (due w body)
+batch-answer-is : (w : State) (slots : Slots) (lines : List (List ℕ)) (body : List ℕ) → list_any is_long lines ≡ false → body ≡ body_of lines → answer_on (desk_at w slots) (Batch lines) ≡ batch_answer w.values (desk_at w slots).state (due w body)
 batch-answer-is w slots lines body short is =
-    ap (λ (b : Bool). cond b (refuses 18 None) (batch_answer w.values (desk_of w slots).state (due w (body_of lines)))) short
-    ∙ ap (λ (b : List ℕ). batch_answer w.values (desk_of w slots).state (due w b)) (sym is)
+    ap (λ (b : Bool). cond b (refuses 18 None) (batch_answer w.values (desk_at w slots).state (due w (body_of lines)))) short
+    ∙ ap (λ (b : List ℕ). batch_answer w.values (desk_at w slots).state (due w b)) (sym is)
 
 -- of what was read, with the lines of the request
 asked-lines : (lines : List (List ℕ)) (body : List ℕ) → IsAsked (asked.Batch body) (Batch lines) → (list_any is_long lines ≡ false) × (body ≡ body_of lines)
@@ -39,24 +39,24 @@ asked-lines lines body given =
     (ap (list_any is_long) (sym e) ∙ given.2, given.3 ∙ ap body_of e)
 
 -- the answer that is due to a body, however it was worked out
-answer-due : (w : State) (slots : Slots) (lines : List (List ℕ)) (body : List ℕ) (r : Result (List Change) Refusal) → IsAsked (asked.Batch body) (Batch lines) → due w body ≡ r → answer_on (desk_of w slots) (Batch lines) ≡ batch_answer w.values (desk_of w slots).state r
+answer-due : (w : State) (slots : Slots) (lines : List (List ℕ)) (body : List ℕ) (r : Result (List Change) Refusal) → IsAsked (asked.Batch body) (Batch lines) → due w body ≡ r → answer_on (desk_at w slots) (Batch lines) ≡ batch_answer w.values (desk_at w slots).state r
 answer-due w slots lines body r given is =
     let at = asked-lines lines body given in
-    batch-answer-is w slots lines body at.0 at.1 ∙ ap (batch_answer w.values (desk_of w slots).state) is
+    batch-answer-is w slots lines body at.0 at.1 ∙ ap (batch_answer w.values (desk_at w slots).state) is
 
 -- an answer that refuses leaves the desk
 pub refused-batch : (w next : State) (slots slots' : Slots) (lines : List (List ℕ)) (body : List ℕ) (refusal : Refusal) (n : ℕ) (p : Option ℕ) (refused : Bool) (old mid new : List ℕ)
-    → IsAsked (asked.Batch body) (Batch lines) → due w body ≡ Err refusal → batch_answer w.values (desk_of w slots).state (Err refusal) ≡ refuses n p → next ≡ w → slots' ≡ slots → mid ≡ old
-    → IsGiven (refuses n p) refused mid new → IsAnswered (desk_of w slots) (Batch lines) refused (desk_of next slots') old new
+    → IsAsked (asked.Batch body) (Batch lines) → due w body ≡ Err refusal → batch_answer w.values (desk_at w slots).state (Err refusal) ≡ refuses n p → next ≡ w → slots' ≡ slots → mid ≡ old
+    → IsGiven (refuses n p) refused mid new → IsAnswered (desk_at w slots) (Batch lines) refused (desk_at next slots') old new
 refused-batch w next slots slots' lines body refusal n p refused old mid new given fault numbered same still kept said =
-    let d = desk_of w slots in
+    let d = desk_at w slots in
     let is : answer_on d (Batch lines) ≡ refuses n p = answer-due w slots lines body (Err refusal) given fault ∙ numbered in
     record {
       given = record {
         text = said.text ∙ ap (λ (t : List ℕ). t ++ refusal_line n p) kept ∙ ap (λ (x : Answer). old ++ x.text) (sym is);
         refused_is = said.refused_is ∙ ap (λ (x : Answer). x.refused) (sym is);
       };
-      desk = ap (λ (s : State). desk_of s slots') same ∙ ap (desk_of w) still ∙ ap (desk_behind d) (sym is);
+      desk = ap (λ (s : State). desk_at s slots') same ∙ ap (desk_at w) still ∙ ap (desk_behind d) (sym is);
     }
 
 -- the one image of a warehouse that is at rest is its store
@@ -71,7 +71,7 @@ rest-store stores w a serving holds c left =
     subst C l.batches_are (subst B l.rows_are (subst A l.values_are store))
 
 -- a request that touches nothing
-pub quiet-answer : {A : Type 0} → LoadsAreStores → (w : State) (slots : Slots) (q : Request) (result : Result A Status) (a : SiteState) → IsNow a → IsServing w → Holds w.pages a → Answering (desk_of w slots) q result a a
+pub quiet-answer : {A : Type 0} → LoadsAreStores → (w : State) (slots : Slots) (q : Request) (result : Result A Status) (a : SiteState) → IsNow a → IsServing w → Holds w.pages a → Answering (desk_at w slots) q result a a
 quiet-answer {A} stores w slots q result a now serving holds = record {
   safe = start now (λ c left. (refl, inl (rest-store stores w a serving holds c left)));
   unsaved = λ _ c left. rest-store stores w a serving holds c left;
@@ -89,7 +89,7 @@ if-ok (Ok x) P Q given each = each x given
 if-ok (Err e) P Q given each = tt
 
 -- the one image of a site that is at rest is the store of the desk
-pub desk-store : LoadsAreStores → (w : State) (slots : Slots) (d : Desk) (b : SiteState) → desk_of w slots ≡ d → IsServing w → Holds w.pages b → (c : List ℕ) → b.may_leave c → IsStoreOf d c
+pub desk-store : LoadsAreStores → (w : State) (slots : Slots) (d : Desk) (b : SiteState) → desk_at w slots ≡ d → IsServing w → Holds w.pages b → (c : List ℕ) → b.may_leave c → IsStoreOf d c
 desk-store stores w slots d b is serving holds c left = let P : Desk → Type 0 = λ x. IsStoreOf x c in subst P is (rest-store stores w b serving holds c left)
 
 replying-quiet : (d : Desk) (q : Request) (a : SiteState) (s i : List ℕ) → s ≡ a.said → IsStoreOf d i ⊎ IsStoreOf (desk_behind d (answer_on d q)) i → IsReplying d q a s i
@@ -101,7 +101,7 @@ answered-quietly {A} {r} d q a b answering = safe_as answering.safe (λ s i at. 
 
 -- the answer is said
 pub replies : {A E : Type 0} {r : Result A Status} {said : Result Unit E} → LoadsAreStores → (d : Desk) (next : State) (slots : Slots) (q : Request) (text : List ℕ) (a b c : SiteState)
-    → Answering d q r a b → b.said ≡ a.said → IsServing next → Holds next.pages b → desk_of next slots ≡ desk_behind d (answer_on d q) → text ≡ (answer_on d q).text → Speaks text said b c → Safe a c (IsReplying d q a)
+    → Answering d q r a b → b.said ≡ a.said → IsServing next → Holds next.pages b → desk_at next slots ≡ desk_behind d (answer_on d q) → text ≡ (answer_on d q).text → Speaks text said b c → Safe a c (IsReplying d q a)
 replies {A} {E} {r} {said} stores d next slots q text a b c answering kept serving holds desk is speaks =
     after_say (answered-quietly d q a b answering) speaks (λ n i left. record {
       n = n;

@@ -28,7 +28,7 @@ use Rattle.session_desk.specs.Moments.{IsSaying}
 use Rattle.session_desk.specs.Session.{Answer, Request, SessionState, answers, text_of, accepted_by, acked, rows_after_all, requests_of, whole_requests}
 use Rattle.session_desk.specs.Courses.{Course, course_text, course_by, begun, session, values_on, state_on, accepted}
 use Rattle.session_desk.specs.Headline.{IsStoreAfter, IsMoment, SaysAll, SaysWhole, KeepsAll, IsSettled, IsUntouched, Serves}
-use Rattle.session_desk.specs.Talks.{desk_of, answers_on, talk, IsStoreAt, IsTalk, Concludes, IsKept, IsCutOff, IsEven}
+use Rattle.session_desk.specs.Talks.{desk_at, answers_on, talk, IsStoreAt, IsTalk, Concludes, IsKept, IsCutOff, IsEven}
 use Rattle.session_desk.specs.Opened.{is_outside, fault_of, refusal_course, IsLoaded}
 use Rattle.session_desk.proofs.LifeLaws.{acked-none}
 use Rattle.session_desk.proofs.Going.{safe_as, then_safe, then_said}
@@ -43,20 +43,20 @@ values-are w c store = ap (λ (o : Option Values). unwrap_or o (record { metric 
 abbrev state_of : Rows → ℕ → Slots → SessionState
 state_of rows batches slots = record { rows = rows; batches = batches; slots = slots }
 
-answers-are : (w : State) (watchers : Slots) (c : List ℕ) (qs : List Request) → IsStore w.values w.rows w.batches c → answers (values_on c) (state_on c watchers) qs ≡ answers_on (desk_of w watchers) qs
+answers-are : (w : State) (watchers : Slots) (c : List ℕ) (qs : List Request) → IsStore w.values w.rows w.batches c → answers (values_on c) (state_on c watchers) qs ≡ answers_on (desk_at w watchers) qs
 answers-are w watchers c qs store =
     ap (λ (v : Values). answers v (state_on c watchers) qs) (values-are w c store)
     ∙ ap (λ (r : Rows). answers w.values (state_of r (batches_on c) watchers) qs) store.records
     ∙ ap (λ (n : ℕ). answers w.values (state_of w.rows n watchers) qs) store.batches_are
 
-session-is : (w : State) (watchers : Slots) (c input : List ℕ) → IsStore w.values w.rows w.batches c → session c watchers input ≡ talk (desk_of w watchers) input
+session-is : (w : State) (watchers : Slots) (c input : List ℕ) → IsStore w.values w.rows w.batches c → session c watchers input ≡ talk (desk_at w watchers) input
 unfolding session
 session-is w watchers c input store = begun-by (refusal_on c) c watchers input store.opens ∙ ap (λ (l : List Answer). begun l input) (answers-are w watchers c (requests_of input) store)
 
-store-after : (w : State) (watchers : Slots) (c input : List ℕ) (m : ℕ) (image : List ℕ) → IsStore w.values w.rows w.batches c → IsStoreAt (desk_of w watchers) input m image → IsStoreAfter c watchers input m image
+store-after : (w : State) (watchers : Slots) (c input : List ℕ) (m : ℕ) (image : List ℕ) → IsStore w.values w.rows w.batches c → IsStoreAt (desk_at w watchers) input m image → IsStoreAfter c watchers input m image
 store-after w watchers c input m image store at =
     let same = session-is w watchers c input store in
-    let batches : accepted_by (talk (desk_of w watchers) input).answers ≡ accepted c watchers input = ap (λ (s : Course). accepted_by s.answers) (sym same) in
+    let batches : accepted_by (talk (desk_at w watchers) input).answers ≡ accepted c watchers input = ap (λ (s : Course). accepted_by s.answers) (sym same) in
     let P : List (List Change) → Type 0 = λ l. m ≤ length l in
     record {
       some = subst P batches at.some;
@@ -71,7 +71,7 @@ store-after w watchers c input m image store at =
     }
 
 -- a moment of the session over the warehouse is one over the content
-talk-moment : (w : State) (watchers : Slots) (a b : SiteState) (input : List ℕ) → IsStore w.values w.rows w.batches a.content → b.said ≡ a.said → (s i : List ℕ) → IsTalk (desk_of w watchers) input b s i → IsMoment watchers input a s i
+talk-moment : (w : State) (watchers : Slots) (a b : SiteState) (input : List ℕ) → IsStore w.values w.rows w.batches a.content → b.said ≡ a.said → (s i : List ℕ) → IsTalk (desk_at w watchers) input b s i → IsMoment watchers input a s i
 talk-moment w watchers a b input store quiet s i at =
     let same = sym (session-is w watchers a.content input store) in
     let P : Course → Type 0 = λ x. at.k ≤ length (course_text x) in
@@ -80,7 +80,7 @@ talk-moment w watchers a b input store quiet s i at =
     record {
       k = at.k;
       within = subst P same at.within;
-      prefix = at.prefix ∙ ap (λ (t : List ℕ). t ++ take at.k (course_text (talk (desk_of w watchers) input))) quiet ∙ ap (λ (x : Course). a.said ++ take at.k (course_text x)) same;
+      prefix = at.prefix ∙ ap (λ (t : List ℕ). t ++ take at.k (course_text (talk (desk_at w watchers) input))) quiet ∙ ap (λ (x : Course). a.said ++ take at.k (course_text x)) same;
       kept = λ sound. inr (record { m = at.m; store = store-after w watchers a.content input at.m i store at.store; holds = subst H same at.holds; few = subst F same at.few });
     }
 
@@ -106,31 +106,31 @@ pub opening-moments : SameOpeningsAreAlike → (watchers : Slots) (a b : SiteSta
 opening-moments alike watchers a b input safe = safe_as safe (λ s i at. opening-moment alike watchers a input s i at)
 
 -- a store that opens: the clauses of the session
-pub serves-moments : SameOpeningsAreAlike → (w : State) (watchers : Slots) (a b c : SiteState) (input : List ℕ) → IsStore w.values w.rows w.batches a.content → Safe a b (IsAsWas a) → b.said ≡ a.said → Safe b c (IsTalk (desk_of w watchers) input b) → Safe a c (IsMoment watchers input a)
+pub serves-moments : SameOpeningsAreAlike → (w : State) (watchers : Slots) (a b c : SiteState) (input : List ℕ) → IsStore w.values w.rows w.batches a.content → Safe a b (IsAsWas a) → b.said ≡ a.said → Safe b c (IsTalk (desk_at w watchers) input b) → Safe a c (IsMoment watchers input a)
 serves-moments alike w watchers a b c input store safe quiet talked = then_safe (opening-moments alike watchers a b input safe) (safe_as talked (λ s i at. talk-moment w watchers a b input store quiet s i at))
 
-pub serves-all : (w : State) (watchers : Slots) (a b c : SiteState) (input : List ℕ) (result : Status) → IsStore w.values w.rows w.batches a.content → b.said ≡ a.said → Concludes (desk_of w watchers) input result b c → SaysAll watchers input result a c
+pub serves-all : (w : State) (watchers : Slots) (a b c : SiteState) (input : List ℕ) (result : Status) → IsStore w.values w.rows w.batches a.content → b.said ≡ a.said → Concludes (desk_at w watchers) input result b c → SaysAll watchers input result a c
 serves-all w watchers a b c input result store quiet done =
     let same = sym (session-is w watchers a.content input store) in
     record {
-      text = done.text ∙ ap (λ (t : List ℕ). t ++ course_text (talk (desk_of w watchers) input)) quiet ∙ ap (λ (x : Course). a.said ++ course_text x) same;
+      text = done.text ∙ ap (λ (t : List ℕ). t ++ course_text (talk (desk_at w watchers) input)) quiet ∙ ap (λ (x : Course). a.said ++ course_text x) same;
       status = done.status ∙ ap (λ (x : Course). x.status) same;
     }
 
-pub serves-whole : (w : State) (watchers : Slots) (a b c : SiteState) (input left : List ℕ) → IsStore w.values w.rows w.batches a.content → b.said ≡ a.said → IsCutOff (desk_of w watchers) input left b c → SaysWhole watchers input left a c
+pub serves-whole : (w : State) (watchers : Slots) (a b c : SiteState) (input left : List ℕ) → IsStore w.values w.rows w.batches a.content → b.said ≡ a.said → IsCutOff (desk_at w watchers) input left b c → SaysWhole watchers input left a c
 serves-whole w watchers a b c input left store quiet cut = record {
   front = cut.front;
   gave = cut.gave;
-  text = cut.text ∙ ap (λ (t : List ℕ). t ++ text_of (answers_on (desk_of w watchers) (whole_requests cut.front))) quiet ∙ ap (λ (l : List Answer). a.said ++ text_of l) (sym (answers-are w watchers a.content (whole_requests cut.front) store));
+  text = cut.text ∙ ap (λ (t : List ℕ). t ++ text_of (answers_on (desk_at w watchers) (whole_requests cut.front))) quiet ∙ ap (λ (l : List Answer). a.said ++ text_of l) (sym (answers-are w watchers a.content (whole_requests cut.front) store));
 }
 
-pub serves-kept : (w : State) (watchers : Slots) (a b c : SiteState) (input : List ℕ) → IsStore w.values w.rows w.batches a.content → IsKept (desk_of w watchers) input c → KeepsAll watchers input a c
+pub serves-kept : (w : State) (watchers : Slots) (a b c : SiteState) (input : List ℕ) → IsStore w.values w.rows w.batches a.content → IsKept (desk_at w watchers) input c → KeepsAll watchers input a c
 serves-kept w watchers a b c input store kept =
-    let batches : accepted_by (talk (desk_of w watchers) input).answers ≡ accepted a.content watchers input = ap (λ (s : Course). accepted_by s.answers) (sym (session-is w watchers a.content input store)) in
+    let batches : accepted_by (talk (desk_at w watchers) input).answers ≡ accepted a.content watchers input = ap (λ (s : Course). accepted_by s.answers) (sym (session-is w watchers a.content input store)) in
     let P : List (List Change) → Type 0 = λ l. IsStoreAfter a.content watchers input (length l) c.content in
-    record { only = kept.only; store = subst P batches (store-after w watchers a.content input (length (accepted_by (talk (desk_of w watchers) input).answers)) c.content store kept.store) }
+    record { only = kept.only; store = subst P batches (store-after w watchers a.content input (length (accepted_by (talk (desk_at w watchers) input).answers)) c.content store kept.store) }
 
-pub serves-settled : (w : State) (watchers : Slots) (a b c : SiteState) (input : List ℕ) → IsStore w.values w.rows w.batches a.content → b.said ≡ a.said → IsEven (desk_of w watchers) input b c → IsSettled watchers input a c
+pub serves-settled : (w : State) (watchers : Slots) (a b c : SiteState) (input : List ℕ) → IsStore w.values w.rows w.batches a.content → b.said ≡ a.said → IsEven (desk_at w watchers) input b c → IsSettled watchers input a c
 serves-settled w watchers a b c input store quiet even image left =
     let same = sym (session-is w watchers a.content input store) in
     let P : Course → Type 0 = λ x. even.k ≤ length (course_text x) in
@@ -138,8 +138,8 @@ serves-settled w watchers a b c input store quiet even image left =
     inr (
       even.k,
       subst P same even.within,
-      even.prefix ∙ ap (λ (t : List ℕ). t ++ take even.k (course_text (talk (desk_of w watchers) input))) quiet ∙ ap (λ (x : Course). a.said ++ take even.k (course_text x)) same,
-      subst Q same (store-after w watchers a.content input (acked even.k (talk (desk_of w watchers) input).answers) image store (even.stores image left)),
+      even.prefix ∙ ap (λ (t : List ℕ). t ++ take even.k (course_text (talk (desk_at w watchers) input))) quiet ∙ ap (λ (x : Course). a.said ++ take even.k (course_text x)) same,
+      subst Q same (store-after w watchers a.content input (acked even.k (talk (desk_at w watchers) input).answers) image store (even.stores image left)),
     )
 
 -- where no count rose, the status is the session's or memory was wanting

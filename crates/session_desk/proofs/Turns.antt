@@ -27,7 +27,7 @@ use Rattle.session_desk.specs.declared.reading.ReadFault.TheVariants as read_fau
 use Rattle.session_desk.specs.Asking.{Asks, IsAsked, asks, rest_of, is_past, AreWhole, IsNext, IsBroken}
 use Rattle.session_desk.specs.Session.{Request, Answer, is_over, text_of, in_list, accepted_by, acked, rows_after_all, requests_of, whole_requests}
 use Rattle.session_desk.specs.Courses.{course_text}
-use Rattle.session_desk.specs.Talks.{Desk, desk_of, desk_behind, desk_after, IsServing, answer_on, answers_on, IsStoreOf, IsReplying, talk, IsStoreAt, IsTalk, IsRead, IsToldOf, IsGoing, Concludes, IsKept, IsCutOff, IsEven}
+use Rattle.session_desk.specs.Talks.{Desk, desk_at, desk_behind, desk_after, IsServing, answer_on, answers_on, IsStoreOf, IsReplying, talk, IsStoreAt, IsTalk, IsRead, IsToldOf, IsGoing, Concludes, IsKept, IsCutOff, IsEven}
 use Rattle.session_desk.proofs.LifeLaws.{none-given}
 use Rattle.session_desk.proofs.Going.{safe_as, then_safe, then_said}
 use Rattle.session_desk.proofs.Replies.{rest-store, desk-store}
@@ -179,9 +179,9 @@ turn-failed tells d next input a b c refused r new left left' q t going is reply
     then_safe told.safe (safe_as replied (λ s i m. turn-moment d input a b going.asked (asks new.room (rest_of new left')) q are told.said s i m))
 
 -- before the first turn
-pub begins-going : LoadsAreStores → (tells : Bool) (w : State) (slots : Slots) (input : List ℕ) (a : SiteState) → (IsTrue tells → IsNow a) → IsServing w → (IsTrue tells → Holds w.pages a) → IsGoing tells (desk_of w slots) input a false (desk_of w slots) fresh input a
+pub begins-going : LoadsAreStores → (tells : Bool) (w : State) (slots : Slots) (input : List ℕ) (a : SiteState) → (IsTrue tells → IsNow a) → IsServing w → (IsTrue tells → Holds w.pages a) → IsGoing tells (desk_at w slots) input a false (desk_at w slots) fresh input a
 begins-going stores tells w slots input a now serving holds =
-    let d = desk_of w slots in
+    let d = desk_at w slots in
     let are : requests_of input ≡ [] ++ asks input_limit input = sym (asks_all input) in
     record {
       asked = [];
@@ -277,7 +277,7 @@ ends-too-long tells d next input a b c refused r left result t going none past i
     }
 
 -- its moments
-pub too-long-moments : LoadsAreStores → (tells : Bool) (d : Desk) (w : State) (slots : Slots) (input : List ℕ) (a b c : SiteState) (refused : Bool) (r : Reading) (left : List ℕ) → IsTrue tells → IsGoing tells d input a refused (desk_of w slots) r left b
+pub too-long-moments : LoadsAreStores → (tells : Bool) (d : Desk) (w : State) (slots : Slots) (input : List ℕ) (a b c : SiteState) (refused : Bool) (r : Reading) (left : List ℕ) → IsTrue tells → IsGoing tells d input a refused (desk_at w slots) r left b
     → asks r.room (rest_of r left) ≡ [] → is_past r.room (rest_of r left) ≡ true → IsServing w → Holds w.pages b → Safe b c (IsSaying b (codes "session too long\n")) → Safe a c (IsTalk d input a)
 too-long-moments stores tells d w slots input a b c refused r left t going none past serving holds say =
     let asked = going.asked in
@@ -295,7 +295,7 @@ too-long-moments stores tells d w slots input a b c refused r left t going none 
     (omega arith) (omega arith))
 
 -- one image with all accepted batches, where what was said after b leaves the content alone
-pub all-kept : LoadsAreStores → (tells : Bool) (d : Desk) (w : State) (slots : Slots) (input : List ℕ) (a b : SiteState) (refused : Bool) (r : Reading) (left : List ℕ) → IsGoing tells d input a refused (desk_of w slots) r left b
+pub all-kept : LoadsAreStores → (tells : Bool) (d : Desk) (w : State) (slots : Slots) (input : List ℕ) (a b : SiteState) (refused : Bool) (r : Reading) (left : List ℕ) → IsGoing tells d input a refused (desk_at w slots) r left b
     → asks r.room (rest_of r left) ≡ [] → IsServing w → (c : SiteState) → IsNow c → Holds w.pages c → IsKept d input c
 all-kept stores tells d w slots input a b refused r left going none serving c now holds =
     let asked = going.asked in

@@ -1,11 +1,13 @@
 -- A session over a warehouse that was loaded, turn by turn. The code alone speaks of this.
-use Rattle.std.specs.Prelude.{◌≡◌, ◌⊎◌, ℕ, ◌+◌, ◌≤◌, Bool, true, false, List, [], ◌∷◌, ◌++◌, length, take, IsTrue, Option, Result, Ok, Err}
+use Rattle.std.specs.Prelude.{◌≡◌, ◌⊎◌, ℕ, ◌+◌, ◌≤◌, Bool, true, false, IsTrue, Option, Result, Ok, Err}
+use Rattle.std.specs.Prelude.{List, [], ◌∷◌, ◌++◌, length, take}
 use Rattle.std.specs.List.{list_any}
 use Rattle.site_disk.specs.State.{SiteState, Safe}
 use Rattle.page_gate.specs.Same.{IsOnly}
 use Rattle.page_layout.specs.Heads.{Values}
 use Rattle.store_image.specs.Stores.{IsStore}
-use Rattle.event_feed.specs.Meanings.{Slots}
+use Rattle.event_feed.specs.declared.feed.WatcherSlots.{WatcherSlots}
+use Rattle.event_feed.specs.Meanings.{Meaning, Slots, meanings}
 use Rattle.warehouse_core.specs.declared.refusal.Refusal.{Refusal}
 use Rattle.warehouse_core.specs.States.{State, LoadsAs}
 use Rattle.warehouse_core.specs.Applying.{is_numbered}
@@ -13,7 +15,8 @@ use Rattle.session_desk.specs.declared.status.Status.{Status}
 use Rattle.session_desk.specs.declared.status.Status.TheVariants as status
 use Rattle.session_desk.specs.Lines.{Reading, HasSource}
 use Rattle.session_desk.specs.Answers.{input_limit}
-use Rattle.session_desk.specs.Session.{Request, Answer, SessionState, behind, is_over, answer, answers, text_of, accepted_by, acked, rows_after_all, batch_answer, refuses, requests_of, whole_requests}
+use Rattle.session_desk.specs.Session.{Request, Answer, SessionState, behind, answer, answers, batch_answer, refuses}
+use Rattle.session_desk.specs.Session.{is_over, text_of, accepted_by, acked, rows_after_all, requests_of, whole_requests}
 use Rattle.session_desk.specs.Asking.{asks, rest_of, is_past, AreWhole}
 use Rattle.session_desk.specs.Courses.{Course, begun, course_text}
 
@@ -22,9 +25,12 @@ pub record Desk : Type 0 where
   pub values : Values
   pub state : SessionState
 
--- the desk of a warehouse and of the slots of its feed
-abbrev pub desk_of : State → Slots → Desk
-desk_of w slots = record { values = w.values; state = record { rows = w.rows; batches = w.batches; slots = slots } }
+-- the desk of a warehouse and of its watchers
+abbrev pub desk_at : State → Slots → Desk
+desk_at w slots = record { values = w.values; state = record { rows = w.rows; batches = w.batches; slots = slots } }
+
+abbrev pub desk_of : {A : Type 0} → (A → Meaning) → State → WatcherSlots A → Desk
+desk_of says w feed = desk_at w (meanings says feed.slots.items)
 
 -- the answer to a request, and the answers to requests in order
 abbrev pub answer_on : Desk → Request → Answer
@@ -116,7 +122,8 @@ pub record IsToldOf (d : Desk) (input : List ℕ) (asked : List Request) (a b : 
   pub safe : Safe a b (IsTalk d input a)
 
 -- A session that goes on: so far was read, answered and said, with the desk behind it.
-pub record IsGoing (tells : Bool) (d : Desk) (input : List ℕ) (a : SiteState) (refused : Bool) (next : Desk) (r : Reading) (left : List ℕ) (b : SiteState) : Type 0 where
+pub record IsGoing (tells : Bool) (d : Desk) (input : List ℕ) (a : SiteState) (refused : Bool) (next : Desk)
+    (r : Reading) (left : List ℕ) (b : SiteState) : Type 0 where
   pub asked : List Request
   pub read : IsRead input asked r left
   pub desk : next ≡ desk_after d asked

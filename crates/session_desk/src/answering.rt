@@ -145,9 +145,8 @@ pub fn drop_watcher<W: Watcher>(
     slot: u32,
     out: &mut Bytes,
 ) -> Result<bool, AllocError>
-    ensures given { IfOk result (λ refused. IsGiven
-        (drop_answer slot (slot_at slot (meanings W.says_after feed.old.slots.items))) refused out.old
-        out.new) }
+    ensures given { IfOk result (λ refused. IsGiven (drop_answer slot (slot_at slot (meanings
+        W.says_after feed.old.slots.items))) refused out.old out.new) }
     ensures slots { meanings W.says_after feed.new.slots.items ≡ without_dropped
         (drop_answer slot (slot_at slot (meanings W.says_after feed.old.slots.items))).dropped
         (meanings W.says_after feed.old.slots.items) }

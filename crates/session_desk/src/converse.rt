@@ -4,7 +4,6 @@ ghost use Rattle.std.specs.Prelude.{IsTrue, codes, if◌then◌else◌};
 ghost use Rattle.site_disk.specs.Causes.{Rose};
 ghost use Rattle.site_disk.specs.State.{Safe, Joins};
 ghost use Rattle.page_gate.specs.Promises.{Holds};
-ghost use Rattle.event_feed.specs.Meanings.{meanings};
 ghost use Rattle.session_desk.specs.Statuses.{is_fault};
 ghost use Rattle.session_desk.specs.Reading.{IsTaken};
 ghost use Rattle.session_desk.specs.Moments.{IsSaying, LeavesAlone};
@@ -19,7 +18,6 @@ use crate::session::Session;
 use crate::status::Status;
 use event_feed::Watcher;
 use site_disk::{Site, Source};
-use std::alloc::Global;
 use std::sync::ledger::Ledger;
 use store_image::laws::loads_are_stores;
 use vec_record::{Metric, Steps};
@@ -63,7 +61,6 @@ fn break_off<T: Site>(site: &mut T, fault: ReadFault) -> Status
 
 /// Answers the requests of an input, one by one.
 pub fn converse<M: Metric, W: Watcher, S: Source, T: Site, L: Ledger>(
-    alloc: Global,
     mut session: Session<M, W>,
     source: &mut S,
     site: &mut T,
@@ -72,21 +69,18 @@ pub fn converse<M: Metric, W: Watcher, S: Source, T: Site, L: Ledger>(
     requires serving { IsServing session.warehouse }
     requires ready { IsTrue T.tells → Holds session.warehouse.pages (T.state site.old) }
     ensures answers { IsTrue S.tells → IsTrue T.tells → is_fault result ≡ false → Concludes
-        (desk_of session.warehouse (meanings W.says_after session.feed.slots.items))
-        (S.left source.old) result (T.state site.old) (T.state site.new) }
+        (desk_of W.says_after session.warehouse session.feed) (S.left source.old) result
+        (T.state site.old) (T.state site.new) }
     ensures whole { IsTrue S.tells → IsTrue T.tells → result ≡ Status.SourceFault → IsCutOff
-        (desk_of session.warehouse (meanings W.says_after session.feed.slots.items))
-        (S.left source.old) (S.left source.new) (T.state site.old) (T.state site.new) }
-    ensures moments { IsTrue S.tells → IsTrue T.tells
-        → Safe (T.state site.old) (T.state site.new) (IsTalk
-        (desk_of session.warehouse (meanings W.says_after session.feed.slots.items))
-        (S.left source.old) (T.state site.old)) }
+        (desk_of W.says_after session.warehouse session.feed) (S.left source.old)
+        (S.left source.new) (T.state site.old) (T.state site.new) }
+    ensures moments { IsTrue S.tells → IsTrue T.tells → Safe (T.state site.old) (T.state site.new)
+        (IsTalk (desk_of W.says_after session.warehouse session.feed) (S.left source.old)
+        (T.state site.old)) }
     ensures end { IsTrue S.tells → IsTrue T.tells → is_fault result ≡ false → IsKept
-        (desk_of session.warehouse (meanings W.says_after session.feed.slots.items))
-        (S.left source.old) (T.state site.new) }
+        (desk_of W.says_after session.warehouse session.feed) (S.left source.old) (T.state site.new) }
     ensures settled { IsTrue S.tells → IsTrue T.tells → (result ≡ Status.SourceFault)
-        ⊎ (result ≡ Status.Memory) → IsEven
-        (desk_of session.warehouse (meanings W.says_after session.feed.slots.items))
+        ⊎ (result ≡ Status.Memory) → IsEven (desk_of W.says_after session.warehouse session.feed)
         (S.left source.old) (T.state site.old) (T.state site.new) }
     ensures status { (result ≡ Status.Fine) ⊎ (result ≡ Status.Refused) ⊎ (result ≡ Status.TooLong)
         ⊎ (is_fault result ≡ true) }
@@ -104,6 +98,7 @@ pub fn converse<M: Metric, W: Watcher, S: Source, T: Site, L: Ledger>(
     ensures site_later { T.faults site.old ≤ T.faults site.new }
 {
     loads_are_stores();
+    let alloc = session.alloc;
     let Ok(mut reader) = LineReader::new(alloc) else {
         return Status::Memory;
     };

@@ -130,34 +130,38 @@ fn say_fault<T: Site>(alloc: Global, site: &mut T, fault: OpenFault) -> Status
     }
 }
 
-/// Answers the requests of an input over a warehouse of any metric, with watchers that are told
-/// the events of its batches.
-fn converse_by_metric<W: Watcher, S: Source, T: Site, L: Ledger>(
+/// A session before its first request, whatever the metric of its store.
+#[derive(Drop)]
+struct AnySession<W> {
     alloc: Global,
     warehouse: AnyWarehouse,
     feed: WatcherSlots<W>,
+}
+
+/// Answers the requests of an input, whatever the metric.
+fn converse_by_metric<W: Watcher, S: Source, T: Site, L: Ledger>(
+    session: AnySession<W>,
     source: &mut S,
     site: &mut T,
     steps: &mut Steps<L>,
 ) -> Status
-    requires serving { IsServing (state_of warehouse) }
-    requires ready { IsTrue T.tells → Holds (state_of warehouse).pages (T.state site.old) }
+    requires serving { IsServing (state_of session.warehouse) }
+    requires ready { IsTrue T.tells → Holds (state_of session.warehouse).pages (T.state site.old) }
     ensures answers { IsTrue S.tells → IsTrue T.tells → is_fault result ≡ false → Concludes
-        (desk_of (state_of warehouse) (meanings W.says_after feed.slots.items)) (S.left source.old)
-        result (T.state site.old) (T.state site.new) }
+        (desk_of W.says_after (state_of session.warehouse) session.feed) (S.left source.old) result
+        (T.state site.old) (T.state site.new) }
     ensures whole { IsTrue S.tells → IsTrue T.tells → result ≡ Status.SourceFault → IsCutOff
-        (desk_of (state_of warehouse) (meanings W.says_after feed.slots.items)) (S.left source.old)
+        (desk_of W.says_after (state_of session.warehouse) session.feed) (S.left source.old)
         (S.left source.new) (T.state site.old) (T.state site.new) }
-    ensures moments { IsTrue S.tells → IsTrue T.tells
-        → Safe (T.state site.old) (T.state site.new) (IsTalk
-        (desk_of (state_of warehouse) (meanings W.says_after feed.slots.items)) (S.left source.old)
+    ensures moments { IsTrue S.tells → IsTrue T.tells → Safe (T.state site.old) (T.state site.new)
+        (IsTalk (desk_of W.says_after (state_of session.warehouse) session.feed) (S.left source.old)
         (T.state site.old)) }
     ensures end { IsTrue S.tells → IsTrue T.tells → is_fault result ≡ false → IsKept
-        (desk_of (state_of warehouse) (meanings W.says_after feed.slots.items)) (S.left source.old)
+        (desk_of W.says_after (state_of session.warehouse) session.feed) (S.left source.old)
         (T.state site.new) }
     ensures settled { IsTrue S.tells → IsTrue T.tells → (result ≡ Status.SourceFault)
         ⊎ (result ≡ Status.Memory) → IsEven
-        (desk_of (state_of warehouse) (meanings W.says_after feed.slots.items)) (S.left source.old)
+        (desk_of W.says_after (state_of session.warehouse) session.feed) (S.left source.old)
         (T.state site.old) (T.state site.new) }
     ensures status { (result ≡ Status.Fine) ⊎ (result ≡ Status.Refused) ⊎ (result ≡ Status.TooLong)
         ⊎ (is_fault result ≡ true) }
@@ -174,45 +178,35 @@ fn converse_by_metric<W: Watcher, S: Source, T: Site, L: Ledger>(
     ensures source_later { S.faults source.old ≤ S.faults source.new }
     ensures site_later { T.faults site.old ≤ T.faults site.new }
 {
+    let AnySession {
+        alloc,
+        warehouse,
+        feed,
+    } = session;
     match warehouse {
         AnyWarehouse::L1(warehouse) => {
-            converse(
+            let session = Session {
                 alloc,
-                Session {
-                    alloc,
-                    warehouse,
-                    feed,
-                },
-                source,
-                site,
-                steps,
-            )
+                warehouse,
+                feed,
+            };
+            converse(session, source, site, steps)
         }
         AnyWarehouse::Max(warehouse) => {
-            converse(
+            let session = Session {
                 alloc,
-                Session {
-                    alloc,
-                    warehouse,
-                    feed,
-                },
-                source,
-                site,
-                steps,
-            )
+                warehouse,
+                feed,
+            };
+            converse(session, source, site, steps)
         }
         AnyWarehouse::Hamming(warehouse) => {
-            converse(
+            let session = Session {
                 alloc,
-                Session {
-                    alloc,
-                    warehouse,
-                    feed,
-                },
-                source,
-                site,
-                steps,
-            )
+                warehouse,
+                feed,
+            };
+            converse(session, source, site, steps)
         }
     }
 }
@@ -225,14 +219,13 @@ fn serve_slots<W: Watcher, S: Source, T: Site, L: Ledger>(
     site: &mut T,
     steps: &mut Steps<L>,
 ) -> Status
-    ensures serves { IsTrue S.tells → IsTrue T.tells
-        → Serves (meanings W.says_after feed.slots.items) (S.left source.old) (S.left source.new)
-        result (T.state site.old) (T.state site.new) }
+    ensures serves { IsTrue S.tells → IsTrue T.tells → Serves
+        (meanings W.says_after feed.slots.items) (S.left source.old) (S.left source.new) result
+        (T.state site.old) (T.state site.new) }
     ensures complete { IsTrue S.tells → IsTrue T.tells
         → (Rose (S.faults source.old) (S.faults source.new) → ⊥)
-        → (Rose (T.faults site.old) (T.faults site.new) → ⊥)
-        → IsComplete (meanings W.says_after feed.slots.items) (S.left source.old) result
-        (T.state site.old) }
+        → (Rose (T.faults site.old) (T.faults site.new) → ⊥) → IsComplete
+        (meanings W.says_after feed.slots.items) (S.left source.old) result (T.state site.old) }
     ensures unopened { IsTrue T.tells
         → LeavesUnopened result (T.state site.old) (T.state site.new) }
     ensures known { result ≡ Status.Words → ⊥ }
@@ -251,7 +244,14 @@ fn serve_slots<W: Watcher, S: Source, T: Site, L: Ledger>(
 {
     same_openings_are_alike();
     match begin(alloc, site, steps) {
-        Ok(warehouse) => converse_by_metric(alloc, warehouse, feed, source, site, steps),
+        Ok(warehouse) => {
+            let session = AnySession {
+                alloc,
+                warehouse,
+                feed,
+            };
+            converse_by_metric(session, source, site, steps)
+        }
         Err(fault) => say_fault(alloc, site, fault),
     }
 }
@@ -265,14 +265,14 @@ pub fn serve<S: Source, T: Site, L: Ledger>(
     watchers: Vec<Box<dyn Watcher>>,
     steps: &mut Steps<L>,
 ) -> Status
-    ensures serves { IsTrue S.tells → IsTrue T.tells
-        → Serves (filled ⟦<Box<dyn Watcher> as Watcher>⟧.says_after watchers.items)
-        (S.left source.old) (S.left source.new) result (T.state site.old) (T.state site.new) }
+    ensures serves { IsTrue S.tells → IsTrue T.tells → Serves
+        (filled ⟦<Box<dyn Watcher> as Watcher>⟧.says_after watchers.items) (S.left source.old)
+        (S.left source.new) result (T.state site.old) (T.state site.new) }
     ensures complete { IsTrue S.tells → IsTrue T.tells
         → (Rose (S.faults source.old) (S.faults source.new) → ⊥)
-        → (Rose (T.faults site.old) (T.faults site.new) → ⊥)
-        → IsComplete (filled ⟦<Box<dyn Watcher> as Watcher>⟧.says_after watchers.items)
-        (S.left source.old) result (T.state site.old) }
+        → (Rose (T.faults site.old) (T.faults site.new) → ⊥) → IsComplete
+        (filled ⟦<Box<dyn Watcher> as Watcher>⟧.says_after watchers.items) (S.left source.old)
+        result (T.state site.old) }
     ensures unopened { IsTrue T.tells
         → LeavesUnopened result (T.state site.old) (T.state site.new) }
     ensures known { result ≡ Status.Words → ⊥ }

@@ -4,7 +4,6 @@ ghost use Rattle.std.specs.Prelude.{IsTrue, IfOk, IfErr, OnOk, length};
 ghost use Rattle.site_disk.specs.Causes.{Rose};
 ghost use Rattle.site_disk.specs.State.{Safe, Joins};
 ghost use Rattle.page_gate.specs.Promises.{Holds};
-ghost use Rattle.event_feed.specs.Meanings.{meanings};
 ghost use Rattle.session_desk.specs.Session.{Request};
 ghost use Rattle.session_desk.specs.Asking.{IsAsked};
 ghost use Rattle.session_desk.specs.Talks.{IsServing, IsJudged, IsAnswered, Answering, desk_of};
@@ -56,10 +55,8 @@ impl<M: Metric, W: Watcher> Session<M, W> {
     ) -> Result<bool, AllocError>
         requires { IsServing self.old.warehouse }
         ensures answered { IfOk result (λ refused. IsAnswered
-            (desk_of self.old.warehouse (meanings W.says_after self.old.feed.slots.items))
-            (Request.Ask line) refused
-            (desk_of self.new.warehouse (meanings W.says_after self.new.feed.slots.items)) out.old
-            out.new) }
+            (desk_of W.says_after self.old.warehouse self.old.feed) (Request.Ask line) refused
+            (desk_of W.says_after self.new.warehouse self.new.feed) out.old out.new) }
         ensures warehouse { self.new.warehouse ≡ self.old.warehouse }
     {
         let warehouse = &self.warehouse;
@@ -90,17 +87,14 @@ impl<M: Metric, W: Watcher> Session<M, W> {
         ensures serving { OnOk result (IsServing self.new.warehouse) }
         ensures ready { IsTrue T.tells
             → OnOk result (Holds self.new.warehouse.pages (T.state site.new)) }
-        ensures answered { (lines : List (List ℕ))
-            → IsAsked (Asked.Batch body.now) (Request.Batch lines)
-            → IfOk result (λ refused. IsAnswered
-            (desk_of self.old.warehouse (meanings W.says_after self.old.feed.slots.items))
-            (Request.Batch lines) refused
-            (desk_of self.new.warehouse (meanings W.says_after self.new.feed.slots.items)) out.old
-            out.new) }
-        ensures moments { IsTrue T.tells → (lines : List (List ℕ))
-            → IsAsked (Asked.Batch body.now) (Request.Batch lines)
-            → Answering (desk_of self.old.warehouse (meanings W.says_after self.old.feed.slots.items))
-            (Request.Batch lines) result (T.state site.old) (T.state site.new) }
+        ensures answered { (lines : List (List ℕ)) → IsAsked (Asked.Batch body.now)
+            (Request.Batch lines) → IfOk result (λ refused. IsAnswered
+            (desk_of W.says_after self.old.warehouse self.old.feed) (Request.Batch lines) refused
+            (desk_of W.says_after self.new.warehouse self.new.feed) out.old out.new) }
+        ensures moments { IsTrue T.tells → (lines : List (List ℕ)) → IsAsked (Asked.Batch body.now)
+            (Request.Batch lines) → Answering
+            (desk_of W.says_after self.old.warehouse self.old.feed) (Request.Batch lines) result
+            (T.state site.old) (T.state site.new) }
         ensures joins { IsTrue T.tells → Joins (T.state site.old) (T.state site.new) }
         ensures said { IsTrue T.tells → (T.state site.new).said ≡ (T.state site.old).said }
         ensures status { IfErr result
@@ -132,14 +126,12 @@ impl<M: Metric, W: Watcher> Session<M, W> {
         ensures serving { OnOk result (IsServing self.new.warehouse) }
         ensures ready { IsTrue T.tells
             → OnOk result (Holds self.new.warehouse.pages (T.state site.new)) }
-        ensures answered { (q : Request) → IsAsked asked q
-            → IfOk result (λ refused. IsAnswered
-            (desk_of self.old.warehouse (meanings W.says_after self.old.feed.slots.items)) q refused
-            (desk_of self.new.warehouse (meanings W.says_after self.new.feed.slots.items)) out.old
-            out.new) }
-        ensures moments { IsTrue T.tells → (q : Request) → IsAsked asked q
-            → Answering (desk_of self.old.warehouse (meanings W.says_after self.old.feed.slots.items))
-            q result (T.state site.old) (T.state site.new) }
+        ensures answered { (q : Request) → IsAsked asked q → IfOk result (λ refused. IsAnswered
+            (desk_of W.says_after self.old.warehouse self.old.feed) q refused
+            (desk_of W.says_after self.new.warehouse self.new.feed) out.old out.new) }
+        ensures moments { IsTrue T.tells → (q : Request) → IsAsked asked q → Answering
+            (desk_of W.says_after self.old.warehouse self.old.feed) q result (T.state site.old)
+            (T.state site.new) }
         ensures joins { IsTrue T.tells → Joins (T.state site.old) (T.state site.new) }
         ensures said { IsTrue T.tells → (T.state site.new).said ≡ (T.state site.old).said }
         ensures status { IfErr result
@@ -172,23 +164,20 @@ impl<M: Metric, W: Watcher> Session<M, W> {
         ensures ready { IsTrue T.tells
             → OnOk result (Holds self.new.warehouse.pages (T.state site.new)) }
         ensures desk { (q : Request) → IsAsked asked q
-            → let old = desk_of self.old.warehouse (meanings W.says_after self.old.feed.slots.items)
-            in OnOk result (desk_of self.new.warehouse
-            (meanings W.says_after self.new.feed.slots.items) ≡ desk_behind old (answer_on old q)) }
-        ensures refused { (q : Request) → IsAsked asked q
-            → IfOk result (λ refused. refused ≡ (answer_on
-            (desk_of self.old.warehouse (meanings W.says_after self.old.feed.slots.items))
-            q).refused) }
-        ensures said { IsTrue T.tells → (q : Request) → IsAsked asked q
-            → OnOk result ((T.state site.new).said ≡ (T.state site.old).said ++ (answer_on
-            (desk_of self.old.warehouse (meanings W.says_after self.old.feed.slots.items)) q).text) }
-        ensures moments { IsTrue T.tells → (q : Request) → IsAsked asked q
-            → Safe (T.state site.old) (T.state site.new) (IsReplying
-            (desk_of self.old.warehouse (meanings W.says_after self.old.feed.slots.items)) q
+            → let old = desk_of W.says_after self.old.warehouse self.old.feed in OnOk result
+            (desk_of W.says_after self.new.warehouse self.new.feed
+            ≡ desk_behind old (answer_on old q)) }
+        ensures refused { (q : Request) → IsAsked asked q → IfOk result (λ refused. refused
+            ≡ (answer_on (desk_of W.says_after self.old.warehouse self.old.feed) q).refused) }
+        ensures said { IsTrue T.tells → (q : Request) → IsAsked asked q → OnOk result
+            ((T.state site.new).said ≡ (T.state site.old).said
+            ++ (answer_on (desk_of W.says_after self.old.warehouse self.old.feed) q).text) }
+        ensures moments { IsTrue T.tells → (q : Request) → IsAsked asked q → Safe (T.state site.old)
+            (T.state site.new) (IsReplying (desk_of W.says_after self.old.warehouse self.old.feed) q
             (T.state site.old)) }
-        ensures unsaved { IsTrue T.tells → (q : Request) → IsAsked asked q → result
-            ≡ Err Status.Memory → (c : List ℕ) → (T.state site.new).may_leave c → IsStoreOf
-            (desk_of self.old.warehouse (meanings W.says_after self.old.feed.slots.items)) c }
+        ensures unsaved { IsTrue T.tells → (q : Request) → IsAsked asked q
+            → result ≡ Err Status.Memory → (c : List ℕ) → (T.state site.new).may_leave c
+            → IsStoreOf (desk_of W.says_after self.old.warehouse self.old.feed) c }
         ensures unsaid { IsTrue T.tells → result ≡ Err Status.Memory → (T.state site.new).said
             ≡ (T.state site.old).said }
         ensures joins { IsTrue T.tells → Joins (T.state site.old) (T.state site.new) }

@@ -2,7 +2,7 @@ use Rattle.std.proofs.Common.{ap, sym, subst}
 use Rattle.event_feed.specs.declared.feed.WatcherSlots.{WatcherSlots}
 use Rattle.event_feed.specs.Meanings.{meanings}
 use Rattle.warehouse_core.specs.States.{State}
-use Rattle.session_desk.specs.Talks.{IsServing, desk_of}
+use Rattle.session_desk.specs.Talks.{IsServing, desk_at}
 use Rattle.session_desk.proofs.Replies.{refused-batch}
 use Rattle.session_desk.proofs.session.Session.answer_batch.Goals as goal
 
@@ -17,5 +17,5 @@ returns-in_ok-refuse-in-Err-clause-answered g c = λ lines given.
     let slots = meanings g.W.Watcher.says_after c.args.self.now.feed.slots.items in
     let judged = c.in_ok-number-in-Err.ensures in
     refused-batch w c.apply.new.self slots (meanings g.W.Watcher.says_after c.apply.new.feed.slots.items) lines c.args.body.now c.in-Err.refusal c.in_ok-number-in-Err.number c.in_ok-number-in-Err.place
-    c.in_ok-refuse-in-Err.field-0 c.args.out.now c.apply.new.out c.refuse.new.out given (c.in-Err.ensures.refused judged.0) (judged.1 (desk_of w slots)) (c.in-Err.ensures.warehouse judged.0)
+    c.in_ok-refuse-in-Err.field-0 c.args.out.now c.apply.new.out c.refuse.new.out given (c.in-Err.ensures.refused judged.0) (judged.1 (desk_at w slots)) (c.in-Err.ensures.warehouse judged.0)
     (ap (λ (f : WatcherSlots g.row.W.Denot). meanings g.W.Watcher.says_after f.slots.items) c.in-Err.ensures.untold) c.in-Err.ensures.text c.in_ok-refuse-in-Err.ensures

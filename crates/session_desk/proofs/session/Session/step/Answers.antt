@@ -1,13 +1,13 @@
 use Rattle.std.proofs.Common.{List, ℕ, ◌++◌, ap, ◌∙◌}
 use Rattle.site_disk.proofs.Moments.{joins_on}
 use Rattle.event_feed.specs.Meanings.{meanings}
-use Rattle.session_desk.specs.Talks.{desk_of, answer_on}
+use Rattle.session_desk.specs.Talks.{desk_at, answer_on}
 use Rattle.session_desk.proofs.Replies.{answered-quietly, replies}
 use Rattle.session_desk.proofs.session.Session.step.Goals as goal
 
 pub returns-in-Ok-clause-moments : goal.returns-in-Ok-clause-moments
 returns-in-Ok-clause-moments g c = λ t q given.
-    let d = desk_of c.args.self.now.warehouse (meanings g.W.Watcher.says_after c.args.self.now.feed.slots.items) in
+    let d = desk_at c.args.self.now.warehouse (meanings g.W.Watcher.says_after c.args.self.now.feed.slots.items) in
     let done = c.in_ok-refused.ensures.answered q given in
     replies c.loads_are_stores.ensures d c.answer.new.self.warehouse (meanings g.W.Watcher.says_after c.answer.new.self.feed.slots.items) q c.as_slice.result.now
     (g.T.Site.state c.args.site.now) (g.T.Site.state c.answer.new.site) (g.T.Site.state c.say.new.self)
@@ -16,7 +16,7 @@ returns-in-Ok-clause-moments g c = λ t q given.
 
 pub returns-clause-moments : goal.returns-clause-moments
 returns-clause-moments g c = λ t q given.
-    let d = desk_of c.args.self.now.warehouse (meanings g.W.Watcher.says_after c.args.self.now.feed.slots.items) in
+    let d = desk_at c.args.self.now.warehouse (meanings g.W.Watcher.says_after c.args.self.now.feed.slots.items) in
     let done = c.in_ok-refused.ensures.answered q given in
     replies c.loads_are_stores.ensures d c.answer.new.self.warehouse (meanings g.W.Watcher.says_after c.answer.new.self.feed.slots.items) q c.as_slice.result.now
     (g.T.Site.state c.args.site.now) (g.T.Site.state c.answer.new.site) (g.T.Site.state c.say.new.self)
@@ -31,5 +31,5 @@ returns-clause-joins g c = λ t. joins_on (g.T.Site.state c.args.site.now) (g.T.
 
 pub returns-in_err-refused-clause-moments : goal.returns-in_err-refused-clause-moments
 returns-in_err-refused-clause-moments g c = λ t q given.
-    let d = desk_of c.args.self.now.warehouse (meanings g.W.Watcher.says_after c.args.self.now.feed.slots.items) in
+    let d = desk_at c.args.self.now.warehouse (meanings g.W.Watcher.says_after c.args.self.now.feed.slots.items) in
     answered-quietly d q (g.T.Site.state c.args.site.now) (g.T.Site.state c.answer.new.site) (c.answer.ensures.moments t q given)
