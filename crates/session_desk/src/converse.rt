@@ -60,8 +60,64 @@ fn break_off<T: Site>(site: &mut T, fault: ReadFault) -> Status
 }
 
 /// Answers the requests of an input, one by one.
-pub fn converse<M: Metric, W: Watcher, S: Source, T: Site, L: Ledger>(
-    mut session: Session<M, W>,
+fn converse<M: Metric, W: Watcher, S: Source, T: Site, L: Ledger>(
+    session: &mut Session<M, W>,
+    source: &mut S,
+    site: &mut T,
+    steps: &mut Steps<L>,
+) -> Status
+    requires serving { IsServing session.old.warehouse }
+    requires ready { IsTrue T.tells → Holds session.old.warehouse.pages (T.state site.old) }
+    ensures answers { IsTrue S.tells → IsTrue T.tells → is_fault result ≡ false → Concludes
+        (desk_of W.says_after session.old.warehouse session.old.feed) (S.left source.old) result
+        (T.state site.old) (T.state site.new) }
+    ensures whole { IsTrue S.tells → IsTrue T.tells → result ≡ Status.SourceFault → IsCutOff
+        (desk_of W.says_after session.old.warehouse session.old.feed) (S.left source.old)
+        (S.left source.new) (T.state site.old) (T.state site.new) }
+    ensures moments { IsTrue S.tells → IsTrue T.tells → Safe (T.state site.old) (T.state site.new)
+        (IsTalk (desk_of W.says_after session.old.warehouse session.old.feed) (S.left source.old)
+        (T.state site.old)) }
+    ensures end { IsTrue S.tells → IsTrue T.tells → is_fault result ≡ false → IsKept
+        (desk_of W.says_after session.old.warehouse session.old.feed) (S.left source.old) (T.state site.new) }
+    ensures settled { IsTrue S.tells → IsTrue T.tells → (result ≡ Status.SourceFault)
+        ⊎ (result ≡ Status.Memory) → IsEven (desk_of W.says_after session.old.warehouse session.old.feed)
+        (S.left source.old) (T.state site.old) (T.state site.new) }
+    ensures status { (result ≡ Status.Fine) ⊎ (result ≡ Status.Refused) ⊎ (result ≡ Status.TooLong)
+        ⊎ (is_fault result ≡ true) }
+    ensures site { result ≡ Status.SiteFault → Rose (T.faults site.old) (T.faults site.new) }
+    ensures source { result ≡ Status.SourceFault
+        → Rose (S.faults source.old) (S.faults source.new) }
+    ensures joins { IsTrue T.tells → Joins (T.state site.old) (T.state site.new) }
+    ensures begins { IsTrue T.tells → (more : List ℕ)
+        × ((T.state site.new).said ≡ (T.state site.old).said ++ more) }
+    ensures taken { IsTrue S.tells
+        → IsTaken (INPUT_LIMIT + 1) (S.left source.old) (S.left source.new) }
+    ensures ended { IsTrue S.tells → (result ≡ Status.Fine) ⊎ (result ≡ Status.Refused)
+        → S.left source.new ≡ [] }
+    ensures source_later { S.faults source.old ≤ S.faults source.new }
+    ensures site_later { T.faults site.old ≤ T.faults site.new }
+{
+    loads_are_stores();
+    let alloc = session.alloc;
+    let Ok(mut reader) = LineReader::new(alloc) else {
+        return Status::Memory;
+    };
+    let mut refused = false;
+    'turns: loop {
+        match next_request(alloc, &mut reader, source) {
+            Ok(Some(asked)) => match session.step(asked, site, steps) {
+                Ok(refuses) => refused = refused || refuses,
+                Err(status) => return status,
+            },
+            Ok(None) => return end_of(refused),
+            Err(fault) => return break_off(site, fault),
+        }
+    }
+}
+
+/// Answers the requests of an input in a session that ends with them.
+pub fn hold_session<M: Metric, W: Watcher, S: Source, T: Site, L: Ledger>(
+    session: Session<M, W>,
     source: &mut S,
     site: &mut T,
     steps: &mut Steps<L>,
@@ -97,20 +153,6 @@ pub fn converse<M: Metric, W: Watcher, S: Source, T: Site, L: Ledger>(
     ensures source_later { S.faults source.old ≤ S.faults source.new }
     ensures site_later { T.faults site.old ≤ T.faults site.new }
 {
-    loads_are_stores();
-    let alloc = session.alloc;
-    let Ok(mut reader) = LineReader::new(alloc) else {
-        return Status::Memory;
-    };
-    let mut refused = false;
-    'turns: loop {
-        match next_request(alloc, &mut reader, source) {
-            Ok(Some(asked)) => match session.step(asked, site, steps) {
-                Ok(refuses) => refused = refused || refuses,
-                Err(status) => return status,
-            },
-            Ok(None) => return end_of(refused),
-            Err(fault) => return break_off(site, fault),
-        }
-    }
+    let mut session = session;
+    converse(&mut session, source, site, steps)
 }

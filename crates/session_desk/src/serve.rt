@@ -16,7 +16,7 @@ ghost use Rattle.session_desk.specs.Talks.{desk_of};
 ghost use Rattle.session_desk.specs.Opened.{state_of, is_outside, fault_of as fault_said};
 ghost use Rattle.session_desk.specs.Opened.{refusal_course, IsLoaded, Loads};
 
-use crate::converse::converse;
+use crate::converse::hold_session;
 use crate::reading::INPUT_LIMIT;
 use crate::saying::say;
 use crate::session::Session;
@@ -190,7 +190,7 @@ fn converse_by_metric<W: Watcher, S: Source, T: Site, L: Ledger>(
                 warehouse,
                 feed,
             };
-            converse(session, source, site, steps)
+            hold_session(session, source, site, steps)
         }
         AnyWarehouse::Max(warehouse) => {
             let session = Session {
@@ -198,7 +198,7 @@ fn converse_by_metric<W: Watcher, S: Source, T: Site, L: Ledger>(
                 warehouse,
                 feed,
             };
-            converse(session, source, site, steps)
+            hold_session(session, source, site, steps)
         }
         AnyWarehouse::Hamming(warehouse) => {
             let session = Session {
@@ -206,7 +206,7 @@ fn converse_by_metric<W: Watcher, S: Source, T: Site, L: Ledger>(
                 warehouse,
                 feed,
             };
-            converse(session, source, site, steps)
+            hold_session(session, source, site, steps)
         }
     }
 }

@@ -13,14 +13,14 @@ use Rattle.session_desk.proofs.converse.converse.Goals.{then-refused, else-refus
 
 pub returns-in_default-clause-moments : goal.returns-in_default-clause-moments
 returns-in_default-clause-moments g c = λ s t.
-    let start = begins-going c.loads_are_stores.ensures g.T.Site.tells c.args.session.warehouse (meanings g.W.Watcher.says_after c.args.session.feed.slots.items) (g.S.Source.left c.args.source.now) (g.T.Site.state c.args.site.now) (λ u. g.met.T.Site.is_now c.args.site.now u) c.requires.serving c.requires.ready in
+    let start = begins-going c.loads_are_stores.ensures g.T.Site.tells c.args.session.now.warehouse (meanings g.W.Watcher.says_after c.args.session.now.feed.slots.items) (g.S.Source.left c.args.source.now) (g.T.Site.state c.args.site.now) (λ u. g.met.T.Site.is_now c.args.site.now u) c.requires.serving c.requires.ready in
     (start.told t).safe
 
 pub returns-in_default-clause-settled : goal.returns-in_default-clause-settled
 returns-in_default-clause-settled g c = λ s t ended.
     let stores = c.loads_are_stores.ensures in
-    let w = c.args.session.warehouse in
-    let slots = meanings g.W.Watcher.says_after c.args.session.feed.slots.items in
+    let w = c.args.session.now.warehouse in
+    let slots = meanings g.W.Watcher.says_after c.args.session.now.feed.slots.items in
     let a = g.T.Site.state c.args.site.now in
     let start = begins-going stores g.T.Site.tells w slots (g.S.Source.left c.args.source.now) a (λ u. g.met.T.Site.is_now c.args.site.now u) c.requires.serving c.requires.ready in
     even-out g.T.Site.tells (desk_at w slots) (desk_at w slots) (g.S.Source.left c.args.source.now) a a a false _ (g.S.Source.left c.args.source.now) t start refl (λ i left. rest-store stores w a c.requires.serving (c.requires.ready t) i left)
@@ -28,8 +28,8 @@ returns-in_default-clause-settled g c = λ s t ended.
 pub turns-init : goal.turns-init
 turns-init g c = record {
   going = λ s.
-      let w = c.args.session.warehouse in
-      let slots = meanings g.W.Watcher.says_after c.args.session.feed.slots.items in
+      let w = c.args.session.now.warehouse in
+      let slots = meanings g.W.Watcher.says_after c.args.session.now.feed.slots.items in
       let input = g.S.Source.left c.args.source.now in
       let a = g.T.Site.state c.args.site.now in
       let P : Reading → Type 0 = λ r. IsGoing g.T.Site.tells (desk_at w slots) input a false (desk_at w slots) r input a in
@@ -47,7 +47,7 @@ turns-init g c = record {
 pub turns-preserved : goal.turns-preserved
 turns-preserved g c = record {
   going = λ s.
-      let d = desk_at c.args.session.warehouse (meanings g.W.Watcher.says_after c.args.session.feed.slots.items) in
+      let d = desk_at c.args.session.now.warehouse (meanings g.W.Watcher.says_after c.args.session.now.feed.slots.items) in
       let next = desk_at c.turns.session.warehouse (meanings g.W.Watcher.says_after c.turns.session.feed.slots.items) in
       let last = desk_at c.step.new.self.warehouse (meanings g.W.Watcher.says_after c.step.new.self.feed.slots.items) in
       let input = g.S.Source.left c.args.source.now in
@@ -86,7 +86,7 @@ returns-in-Err-step-clause-moments g c = λ s t.
     let left' = g.S.Source.left c.next_request.new.source in
     let going = c.turns.invariant.going s in
     let next = some-asked c.in-Ok-Some.field-0 c.in-Ok-Some.asked c.turns.reader c.next_request.new.reader left left' c.in-Ok-Some.field-0-is (c.in-Ok-Some.ensures.told s going.read.same_source) in
-    turn-failed g.T.Site.tells (desk_at c.args.session.warehouse (meanings g.W.Watcher.says_after c.args.session.feed.slots.items)) (desk_at c.turns.session.warehouse (meanings g.W.Watcher.says_after c.turns.session.feed.slots.items)) (g.S.Source.left c.args.source.now) (g.T.Site.state c.args.site.now) (g.T.Site.state c.turns.site) (g.T.Site.state c.step.new.site) c.turns.refused
+    turn-failed g.T.Site.tells (desk_at c.args.session.now.warehouse (meanings g.W.Watcher.says_after c.args.session.now.feed.slots.items)) (desk_at c.turns.session.warehouse (meanings g.W.Watcher.says_after c.turns.session.feed.slots.items)) (g.S.Source.left c.args.source.now) (g.T.Site.state c.args.site.now) (g.T.Site.state c.turns.site) (g.T.Site.state c.step.new.site) c.turns.refused
     c.turns.reader c.next_request.new.reader left left' next.0 t going next.2 (c.step.ensures.moments t next.0 next.1)
 
 pub returns-in-Err-step-clause-settled : goal.returns-in-Err-step-clause-settled
@@ -98,7 +98,7 @@ returns-in-Err-step-clause-settled g c = λ s t ended.
     let memory : c.in-Err-step.status ≡ status.Memory =
     ⊎_elim (λ source. ⊎_elim (λ site. absurd (cc (source, site))) (λ m. m) c.in-Err-step.ensures.status) (λ m. m) ended in
     let was = c.in-Err-step.is ∙ ap Err memory in
-    even-out g.T.Site.tells (desk_at c.args.session.warehouse (meanings g.W.Watcher.says_after c.args.session.feed.slots.items)) (desk_at c.turns.session.warehouse (meanings g.W.Watcher.says_after c.turns.session.feed.slots.items)) (g.S.Source.left c.args.source.now) (g.T.Site.state c.args.site.now) (g.T.Site.state c.turns.site) (g.T.Site.state c.step.new.site) c.turns.refused
+    even-out g.T.Site.tells (desk_at c.args.session.now.warehouse (meanings g.W.Watcher.says_after c.args.session.now.feed.slots.items)) (desk_at c.turns.session.warehouse (meanings g.W.Watcher.says_after c.turns.session.feed.slots.items)) (g.S.Source.left c.args.source.now) (g.T.Site.state c.args.site.now) (g.T.Site.state c.turns.site) (g.T.Site.state c.step.new.site) c.turns.refused
     c.turns.reader left t going (c.step.ensures.unsaid t was) (c.step.ensures.unsaved t next.0 next.1 was)
 
 pub returns-in-Err-step-clause-begins : goal.returns-in-Err-step-clause-begins
@@ -115,7 +115,7 @@ returns-in-Ok-None-clause-answers g c = λ s t fine.
     let left' = g.S.Source.left c.next_request.new.source in
     let going = c.turns.invariant.going s in
     let none = none-asked c.in-Ok-None.field-0 c.turns.reader c.next_request.new.reader left left' c.in-Ok-None.field-0-is (c.in-Ok-None.ensures.told s going.read.same_source) in
-    ends-fine g.T.Site.tells (desk_at c.args.session.warehouse (meanings g.W.Watcher.says_after c.args.session.feed.slots.items)) (desk_at c.turns.session.warehouse (meanings g.W.Watcher.says_after c.turns.session.feed.slots.items)) (g.S.Source.left c.args.source.now) (g.T.Site.state c.args.site.now) (g.T.Site.state c.turns.site) c.turns.refused c.turns.reader left c.end_of.result t going none.0 none.1 c.end_of.ensures
+    ends-fine g.T.Site.tells (desk_at c.args.session.now.warehouse (meanings g.W.Watcher.says_after c.args.session.now.feed.slots.items)) (desk_at c.turns.session.warehouse (meanings g.W.Watcher.says_after c.turns.session.feed.slots.items)) (g.S.Source.left c.args.source.now) (g.T.Site.state c.args.site.now) (g.T.Site.state c.turns.site) c.turns.refused c.turns.reader left c.end_of.result t going none.0 none.1 c.end_of.ensures
 
 pub returns-in-Ok-None-clause-end : goal.returns-in-Ok-None-clause-end
 returns-in-Ok-None-clause-end g c = λ s t fine.
@@ -123,7 +123,7 @@ returns-in-Ok-None-clause-end g c = λ s t fine.
     let left' = g.S.Source.left c.next_request.new.source in
     let going = c.turns.invariant.going s in
     let none = none-asked c.in-Ok-None.field-0 c.turns.reader c.next_request.new.reader left left' c.in-Ok-None.field-0-is (c.in-Ok-None.ensures.told s going.read.same_source) in
-    all-kept c.loads_are_stores.ensures g.T.Site.tells (desk_at c.args.session.warehouse (meanings g.W.Watcher.says_after c.args.session.feed.slots.items)) c.turns.session.warehouse (meanings g.W.Watcher.says_after c.turns.session.feed.slots.items) (g.S.Source.left c.args.source.now) (g.T.Site.state c.args.site.now) (g.T.Site.state c.turns.site) c.turns.refused c.turns.reader left going none.0
+    all-kept c.loads_are_stores.ensures g.T.Site.tells (desk_at c.args.session.now.warehouse (meanings g.W.Watcher.says_after c.args.session.now.feed.slots.items)) c.turns.session.warehouse (meanings g.W.Watcher.says_after c.turns.session.feed.slots.items) (g.S.Source.left c.args.source.now) (g.T.Site.state c.args.site.now) (g.T.Site.state c.turns.site) c.turns.refused c.turns.reader left going none.0
     c.turns.invariant.serving (g.T.Site.state c.turns.site) (g.met.T.Site.is_now c.turns.site t) (c.turns.invariant.ready t)
 
 pub returns-in-Ok-None-clause-taken : goal.returns-in-Ok-None-clause-taken
@@ -138,7 +138,7 @@ returns-in-Err-clause-answers g c = λ s t fine.
     let going = c.turns.invariant.going s in
     let ended = too-long-only c.break_off.result c.break_off.ensures.status fine in
     let much = too-much c.in-Err.fault c.turns.reader c.next_request.new.reader left left' (c.break_off.ensures.too_long ended) (c.in-Err.ensures.told s going.read.same_source) in
-    ends-too-long g.T.Site.tells (desk_at c.args.session.warehouse (meanings g.W.Watcher.says_after c.args.session.feed.slots.items)) (desk_at c.turns.session.warehouse (meanings g.W.Watcher.says_after c.turns.session.feed.slots.items)) (g.S.Source.left c.args.source.now) (g.T.Site.state c.args.site.now) (g.T.Site.state c.turns.site) (g.T.Site.state c.break_off.new.site) c.turns.refused
+    ends-too-long g.T.Site.tells (desk_at c.args.session.now.warehouse (meanings g.W.Watcher.says_after c.args.session.now.feed.slots.items)) (desk_at c.turns.session.warehouse (meanings g.W.Watcher.says_after c.turns.session.feed.slots.items)) (g.S.Source.left c.args.source.now) (g.T.Site.state c.args.site.now) (g.T.Site.state c.turns.site) (g.T.Site.state c.break_off.new.site) c.turns.refused
     c.turns.reader left c.break_off.result t going much.0 much.1 ended (c.break_off.ensures.said t ended)
 
 pub returns-in-Err-clause-whole : goal.returns-in-Err-clause-whole
@@ -149,9 +149,9 @@ returns-in-Err-clause-whole g c = λ s t source.
     let fault = c.break_off.ensures.source source in
     let still = c.break_off.ensures.still (λ e. absurd (cc (fault, e))) in
     let broken = broken-off c.in-Err.fault c.turns.reader c.next_request.new.reader left left' fault (c.in-Err.ensures.told s going.read.same_source) in
-    let P : g.row.T.Denot → Type 0 = λ x. IsCutOff (desk_at c.args.session.warehouse (meanings g.W.Watcher.says_after c.args.session.feed.slots.items)) (g.S.Source.left c.args.source.now) left' (g.T.Site.state c.args.site.now) (g.T.Site.state x) in
+    let P : g.row.T.Denot → Type 0 = λ x. IsCutOff (desk_at c.args.session.now.warehouse (meanings g.W.Watcher.says_after c.args.session.now.feed.slots.items)) (g.S.Source.left c.args.source.now) left' (g.T.Site.state c.args.site.now) (g.T.Site.state x) in
     subst P (sym still)
-    (cut-off g.T.Site.tells (desk_at c.args.session.warehouse (meanings g.W.Watcher.says_after c.args.session.feed.slots.items)) (desk_at c.turns.session.warehouse (meanings g.W.Watcher.says_after c.turns.session.feed.slots.items)) (g.S.Source.left c.args.source.now) (g.T.Site.state c.args.site.now) (g.T.Site.state c.turns.site) c.turns.refused c.turns.reader left left' t going broken)
+    (cut-off g.T.Site.tells (desk_at c.args.session.now.warehouse (meanings g.W.Watcher.says_after c.args.session.now.feed.slots.items)) (desk_at c.turns.session.warehouse (meanings g.W.Watcher.says_after c.turns.session.feed.slots.items)) (g.S.Source.left c.args.source.now) (g.T.Site.state c.args.site.now) (g.T.Site.state c.turns.site) c.turns.refused c.turns.reader left left' t going broken)
 
 pub returns-in-Err-clause-moments : goal.returns-in-Err-clause-moments
 returns-in-Err-clause-moments g c = λ s t.
@@ -163,10 +163,10 @@ returns-in-Err-clause-moments g c = λ s t.
     ⊎_elim
     (λ fault.
     let much = too-much c.in-Err.fault c.turns.reader c.next_request.new.reader left left' fault (c.in-Err.ensures.told s going.read.same_source) in
-    too-long-moments c.loads_are_stores.ensures g.T.Site.tells (desk_at c.args.session.warehouse (meanings g.W.Watcher.says_after c.args.session.feed.slots.items)) c.turns.session.warehouse (meanings g.W.Watcher.says_after c.turns.session.feed.slots.items) input a (g.T.Site.state c.turns.site) (g.T.Site.state c.break_off.new.site) c.turns.refused
+    too-long-moments c.loads_are_stores.ensures g.T.Site.tells (desk_at c.args.session.now.warehouse (meanings g.W.Watcher.says_after c.args.session.now.feed.slots.items)) c.turns.session.warehouse (meanings g.W.Watcher.says_after c.turns.session.feed.slots.items) input a (g.T.Site.state c.turns.site) (g.T.Site.state c.break_off.new.site) c.turns.refused
     c.turns.reader left t going much.0 much.1 c.turns.invariant.serving (c.turns.invariant.ready t) (c.break_off.ensures.moments t))
     (λ other.
-    let P : g.row.T.Denot → Type 0 = λ x. Safe a (g.T.Site.state x) (IsTalk (desk_at c.args.session.warehouse (meanings g.W.Watcher.says_after c.args.session.feed.slots.items)) input a) in
+    let P : g.row.T.Denot → Type 0 = λ x. Safe a (g.T.Site.state x) (IsTalk (desk_at c.args.session.now.warehouse (meanings g.W.Watcher.says_after c.args.session.now.feed.slots.items)) input a) in
     subst P (sym (c.break_off.ensures.still other)) (going.told t).safe)
     (is-too-much c.in-Err.fault)
 
@@ -179,7 +179,7 @@ returns-in-Err-clause-end g c = λ s t fine.
     let much = too-much c.in-Err.fault c.turns.reader c.next_request.new.reader left left' (c.break_off.ensures.too_long ended) (c.in-Err.ensures.told s going.read.same_source) in
     let b = g.T.Site.state c.turns.site in
     let d = g.T.Site.state c.break_off.new.site in
-    all-kept c.loads_are_stores.ensures g.T.Site.tells (desk_at c.args.session.warehouse (meanings g.W.Watcher.says_after c.args.session.feed.slots.items)) c.turns.session.warehouse (meanings g.W.Watcher.says_after c.turns.session.feed.slots.items) (g.S.Source.left c.args.source.now) (g.T.Site.state c.args.site.now) b c.turns.refused c.turns.reader left going much.0
+    all-kept c.loads_are_stores.ensures g.T.Site.tells (desk_at c.args.session.now.warehouse (meanings g.W.Watcher.says_after c.args.session.now.feed.slots.items)) c.turns.session.warehouse (meanings g.W.Watcher.says_after c.turns.session.feed.slots.items) (g.S.Source.left c.args.source.now) (g.T.Site.state c.args.site.now) b c.turns.refused c.turns.reader left going much.0
     c.turns.invariant.serving d (g.met.T.Site.is_now c.break_off.new.site t) (holds-on c.turns.session.warehouse.pages b d (c.turns.invariant.ready t) (c.break_off.ensures.alone t))
 
 pub returns-in-Err-clause-settled : goal.returns-in-Err-clause-settled
@@ -193,9 +193,9 @@ returns-in-Err-clause-settled g c = λ s t ended.
     (λ source. let fault = c.break_off.ensures.source source in absurd (cc (fault, e)))
     (λ memory. let fault = c.break_off.ensures.memory memory in absurd (cc (fault, e)))
     ended) in
-    let P : g.row.T.Denot → Type 0 = λ x. IsEven (desk_at c.args.session.warehouse (meanings g.W.Watcher.says_after c.args.session.feed.slots.items)) input a (g.T.Site.state x) in
+    let P : g.row.T.Denot → Type 0 = λ x. IsEven (desk_at c.args.session.now.warehouse (meanings g.W.Watcher.says_after c.args.session.now.feed.slots.items)) input a (g.T.Site.state x) in
     subst P (sym still)
-    (even-out g.T.Site.tells (desk_at c.args.session.warehouse (meanings g.W.Watcher.says_after c.args.session.feed.slots.items)) (desk_at c.turns.session.warehouse (meanings g.W.Watcher.says_after c.turns.session.feed.slots.items)) input a b b c.turns.refused c.turns.reader left t going refl
+    (even-out g.T.Site.tells (desk_at c.args.session.now.warehouse (meanings g.W.Watcher.says_after c.args.session.now.feed.slots.items)) (desk_at c.turns.session.warehouse (meanings g.W.Watcher.says_after c.turns.session.feed.slots.items)) input a b b c.turns.refused c.turns.reader left t going refl
     (λ i left'. rest-store c.loads_are_stores.ensures c.turns.session.warehouse b c.turns.invariant.serving (c.turns.invariant.ready t) i left'))
 
 pub returns-in-Err-clause-begins : goal.returns-in-Err-clause-begins
