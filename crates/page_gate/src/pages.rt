@@ -29,7 +29,7 @@ impl Model for Pages {
 
 impl Pages {
     /// No pages.
-    pub(crate) fn new(alloc: Global) -> Pages
+    pub fn new(alloc: Global) -> Pages
         ensures { result.list ≡ [] }
     {
         Pages {

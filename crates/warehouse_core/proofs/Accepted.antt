@@ -17,7 +17,7 @@ use Rattle.store_image.specs.Stores.{IsStore, LoadsAreStores}
 use Rattle.warehouse_core.specs.declared.refusal.Refusal.{Refusal}
 use Rattle.warehouse_core.specs.Applying.{Accepts, IsAfter, IsBefore, Steps, due, pages_after, pages_from}
 use Rattle.warehouse_core.specs.Batches.{events_of, rows_after}
-use Rattle.warehouse_core.specs.Inside.{CanHold, Saves, StandBy, Stands, state_of}
+use Rattle.warehouse_core.specs.Inside.{CanHold, IsPaged, Saves, StandBy, Stands, state_of}
 use Rattle.warehouse_core.specs.Receipts.{batch_text, decline_text, growth_text, is_deletion, is_insertion, receipt_text}
 use Rattle.warehouse_core.specs.States.{State}
 use Rattle.warehouse_core.proofs.Moments.{opened_before, weaker}
@@ -57,15 +57,14 @@ module _ (changes : List Change) (was is : Loaded) (before after : List (List �
         subst Q (sym s) (subst P whole (taken body) accepted)
 
   -- it stands again
-  pub stands_again : (dist : List ℕ → List ℕ → ℕ) (kind : MetricKind) (k : Kept) → (plain was.head).values.metric ≡ kind → AreAt (plain is.head) is.places after → CanHold (plain was.head).values records → StandBy dist (plain was.head).values records k → Stands dist kind is after k
-  stands_again dist kind k kind_is here holds clusters =
+  pub stands_again : (dist : List ℕ → List ℕ → ℕ) (kind : MetricKind) (stored : Bool) (k : Kept) → (plain was.head).values.metric ≡ kind → AreAt (plain is.head) is.places after → CanHold (plain was.head).values records → StandBy dist (plain was.head).values records k → Stands dist kind stored is after k
+  stands_again dist kind stored k kind_is here holds clusters =
       let P : Values → Type 0 = λ v. CanHold v is.records in
       let Q : Held → Type 0 = λ h. CanHold (plain was.head).values h in
       let R : Values → Type 0 = λ v. StandBy dist v is.records k in
       let S : Held → Type 0 = λ h. StandBy dist (plain was.head).values h k in
       record {
-        at = here;
-        loads = loads;
+        paged = λ _. record { at = here; loads = loads };
         kind_is = ap (λ (v : Values). v.metric) values_are ∙ kind_is;
         holds = subst P (sym values_are) (subst Q (sym records_are) holds);
         clusters = subst R (sym values_are) (subst S (sym records_are) clusters);
@@ -81,7 +80,7 @@ counted_receipt batch insertions deletions changes events due_events line is ins
     ∙ ap (receipt_text batch changes) evs))
 
 -- the moments of a saving
-module _ (law : LoadsAreStores) (dist : List ℕ → List ℕ → ℕ) (kind : MetricKind) (was : Loaded) (before : List (List ℕ)) (k : Kept) (standing : Stands dist kind was before k) (changes : List Change) (rows : Rows)
+module _ (law : LoadsAreStores) (was : Loaded) (before : List (List ℕ)) (k : Kept) (is_paged : IsPaged was before) (changes : List Change) (rows : Rows)
     (rows_are : rows ≡ rows_after (plain was.head).values was.records.vectors changes) where
   module _ (after : List (List ℕ)) (result : Result Unit Refusal) (a b : SiteState) (saves : Saves before (plain was.head).values rows (was.head.batches + 1) after result a b) where
     crossed : (stored failed : Bool) (body : List ℕ) → due (state_of was before stored failed k) body ≡ Ok changes → Steps body result (state_of was before stored failed k) a b
@@ -89,7 +88,7 @@ module _ (law : LoadsAreStores) (dist : List ℕ → List ℕ → ℕ) (kind : M
         let w = state_of was before stored failed k in
         let R : Rows → Type 0 = λ r. (c : List ℕ) → IsStore (plain was.head).values r (was.head.batches + 1) c → IsAfter body w c in
         let later : R rows = subst R (sym rows_are) (λ c store. record { changes = changes; accepted = accepted; store = store }) in
-        let sooner : (c : List ℕ) → opening c ≡ Opens before → IsBefore w c = λ c opens. opened_before law dist kind was before k standing stored failed w c refl opens in
+        let sooner : (c : List ℕ) → opening c ≡ Opens before → IsBefore w c = λ c opens. opened_before law was before k is_paged stored failed w c refl opens in
         let either : (c : List ℕ) → (opening c ≡ Opens before) ⊎ IsStore (plain was.head).values rows (was.head.batches + 1) c → IsBefore w c ⊎ IsAfter body w c = λ c e. elim e [ inl x ↦ inl (sooner c x) | inr y ↦ inr (later c y) ] in
         record {
           safe = weaker a b (λ s c. (s ≡ a.said) × ((opening c ≡ Opens before) ⊎ IsStore (plain was.head).values rows (was.head.batches + 1) c)) (λ s c. (s ≡ a.said) × (IsBefore w c ⊎ IsAfter body w c)) saves.safe (λ s c m. (m.0, either c m.1));

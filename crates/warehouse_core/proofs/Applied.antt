@@ -98,6 +98,10 @@ held_changed v old new c held fits spelled is =
       each = subst P (sym (ap (λ (h : Held). h.vectors) is)) (all_changed (CanStand v) old.vectors held.each c (inserted_stands v c fits spelled));
     }
 
+-- no records can be held
+pub none_held : (P : ℕ × List ℕ → Type 0) → AllByRecursion P (maps.entries (maps.empty {R = nat_cmp}))
+none_held P = each_found P (maps.entries maps.empty) (maps.entries_sorted maps.empty) (λ q v is. absurd (none-some _ (sym (maps.get-empty nat_cmp q) ∙ maps.get-entries maps.empty q ∙ is)))
+
 -- where all changes apply, the first can, the others apply to what it makes, and there are never too many records
 absent : {X : Type 0} (o : Option X) → is_some o ≡ false → o ≡ None
 absent None e = refl

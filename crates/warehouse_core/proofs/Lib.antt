@@ -7,3 +7,4 @@ pub mod Accepted
 pub mod Numbered
 pub mod Spent
 pub mod Changed
+pub mod Fresh

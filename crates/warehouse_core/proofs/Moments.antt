@@ -1,5 +1,5 @@
 -- What the images of a site are, before a batch is written.
-use Rattle.std.proofs.Common.{◌≡◌, ◌⊎◌, inl, inr, ℕ, Bool, false, List, Result, Ok, Err, OnOk, refl, sym, ap, subst, ◌∙◌}
+use Rattle.std.proofs.Common.{◌≡◌, ◌⊎◌, inl, inr, ℕ, Bool, true, false, List, Result, Ok, Err, OnOk, refl, sym, ap, subst, ◌∙◌}
 use Rattle.vec_record.specs.Held.{Rows}
 use Rattle.page_layout.specs.Heads.{Values}
 use Rattle.vec_record.specs.declared.kind.MetricKind.{MetricKind}
@@ -19,16 +19,20 @@ use Rattle.store_image.specs.Stores.{IsStore, LoadsAreStores}
 use Rattle.warehouse_core.specs.declared.refusal.Refusal.{Refusal}
 use Rattle.warehouse_core.specs.declared.refusal.Refusal.TheVariants.{Memory, SiteFault}
 use Rattle.warehouse_core.specs.States.{State}
-use Rattle.warehouse_core.specs.Inside.{Saves, Stands, state_of}
+use Rattle.warehouse_core.specs.Inside.{IsPaged, Saves, Stands, state_of}
 use Rattle.warehouse_core.specs.Applying.{IsBefore, Steps}
 
 -- a warehouse that hasn't failed stands
-pub stands : (dist : List ℕ → List ℕ → ℕ) (kind : MetricKind) (s : Loaded) (pages : List (List ℕ)) (k : Kept) (stored failed : Bool) (w : State) → (failed ≡ false → Stands dist kind s pages k) → state_of s pages stored failed k ≡ w → w.failed ≡ false → Stands dist kind s pages k
+pub stands : (dist : List ℕ → List ℕ → ℕ) (kind : MetricKind) (s : Loaded) (pages : List (List ℕ)) (k : Kept) (stored failed : Bool) (w : State) → (failed ≡ false → Stands dist kind stored s pages k) → state_of s pages stored failed k ≡ w → w.failed ≡ false → Stands dist kind stored s pages k
 stands dist kind s pages k stored failed w whole view not_failed = whole (ap (λ (x : State). x.failed) view ∙ not_failed)
 
-module _ (law : LoadsAreStores) (dist : List ℕ → List ℕ → ℕ) (kind : MetricKind) (s : Loaded) (pages : List (List ℕ)) (k : Kept) (standing : Stands dist kind s pages k) where
+-- and its pages are those of its store, if it has one
+pub paged : (dist : List ℕ → List ℕ → ℕ) (kind : MetricKind) (s : Loaded) (pages : List (List ℕ)) (k : Kept) (stored failed : Bool) (w : State) → (failed ≡ false → Stands dist kind stored s pages k) → state_of s pages stored failed k ≡ w → w.failed ≡ false → w.stored ≡ true → IsPaged s pages
+paged dist kind s pages k stored failed w whole view not_failed is_stored = (stands dist kind s pages k stored failed w whole view not_failed).paged (ap (λ (x : State). x.stored) view ∙ is_stored)
+
+module _ (law : LoadsAreStores) (s : Loaded) (pages : List (List ℕ)) (k : Kept) (is_paged : IsPaged s pages) where
   opened : (stored failed : Bool) (c : List ℕ) → opening c ≡ Opens pages → IsBefore (state_of s pages stored failed k) c
-  opened stored failed c opens = law c pages (image_of s) opens standing.loads
+  opened stored failed c opens = law c pages (image_of s) opens is_paged.loads
 
   -- a content with its pages is the store as it is
   pub opened_before : (stored failed : Bool) (w : State) (c : List ℕ) → state_of s pages stored failed k ≡ w → opening c ≡ Opens pages → IsBefore w c

@@ -1,5 +1,5 @@
 -- For the inside of a warehouse alone: what its fields are seen as, and what holds of them until it has failed.
-use Rattle.std.specs.Prelude.{◌≡◌, ◌⊎◌, ◌<◌, ◌≤◌, ℕ, Bool, List, None, IsSome, Result, Ok, Err, OnOk}
+use Rattle.std.specs.Prelude.{◌≡◌, ◌⊎◌, ◌<◌, ◌≤◌, ℕ, Bool, true, List, None, IsSome, Result, Ok, Err, OnOk}
 use Rattle.std.specs.List.{AllByRecursion}
 use Rattle.std.specs.FinMap as map
 use Rattle.vec_record.specs.Limits.{width_of}
@@ -54,12 +54,16 @@ abbrev pub CanFollow : ℕ → held.Rows → Change → Type 0
 CanFollow cap rows (Insert n v) = (map.get rows n ≡ None) × (map.len rows < cap)
 CanFollow cap rows (Delete n) = IsSome (map.get rows n)
 
--- the pages are those of the store, the metric is that of the parameters, and the clusters stand for the records
-pub record Stands
-    (dist : List ℕ → List ℕ → ℕ) (kind : MetricKind) (s : Loaded) (pages : List (List ℕ))
-    (k : Kept) : Type 0 where
+-- the pages are those of the store
+pub record IsPaged (s : Loaded) (pages : List (List ℕ)) : Type 0 where
   pub at : AreAt (plain s.head) s.places pages
   pub loads : load_of pages ≡ Ok (image_of s)
+
+-- the metric is that of the parameters, the clusters stand for the records, and where there is a store it has the pages
+pub record Stands
+    (dist : List ℕ → List ℕ → ℕ) (kind : MetricKind) (stored : Bool) (s : Loaded)
+    (pages : List (List ℕ)) (k : Kept) : Type 0 where
+  pub paged : stored ≡ true → IsPaged s pages
   pub kind_is : (plain s.head).values.metric ≡ kind
   pub holds : CanHold (plain s.head).values s.records
   pub clusters : StandBy dist (plain s.head).values s.records k

@@ -9,6 +9,7 @@
 
 mod changing;
 mod clustering;
+mod copying;
 mod judging;
 pub mod laws;
 mod receipt;

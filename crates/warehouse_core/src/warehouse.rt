@@ -17,7 +17,7 @@ ghost use Rattle.page_layout.specs.Heads.{Values, values_of};
 ghost use Rattle.event_feed.specs.Meanings.{meanings, told_all};
 ghost use Rattle.plain_dbscan.specs.Marks.{density};
 ghost use Rattle.mtree_index.specs.Tree.{query_cost};
-ghost use Rattle.warehouse_core.specs.Batches.{density_by, events_of, marks_on};
+ghost use Rattle.warehouse_core.specs.Batches.{density_by, events_of, marks_on, rows_after};
 ghost use Rattle.warehouse_core.specs.Costs.{ArePaid, work_of_all, tree_after_all};
 ghost use Rattle.warehouse_core.specs.States.{State, LoadsAs, held_in};
 ghost use Rattle.cluster_report.specs.Counts.{summary_of};
@@ -27,6 +27,7 @@ ghost use Rattle.warehouse_core.specs.Applying.{events_due, is_numbered};
 
 use crate::changing::apply_changes;
 use crate::clustering::cluster;
+use crate::copying::{append_events, copy_changes};
 use crate::judging::judge;
 use crate::receipt::{count_deletions, count_insertions, receipt};
 use crate::refusal::Refusal;
@@ -42,7 +43,7 @@ use std::marker::Model;
 use std::sync::ledger::Ledger;
 use store_image::laws::loads_are_stores;
 use store_image::{Loaded, StoreFault};
-use vec_record::{Bytes, Changes, Metric, Number, Numbers, Params, Records, Steps};
+use vec_record::{Bytes, Changes, Events, Metric, Number, Numbers, Params, Records, Steps};
 
 /// Records, their clusters and their store.
 #[derive(Drop)]
@@ -68,7 +69,7 @@ impl<M: Metric> Model for Warehouse<M> {
     ghost view = { λ w. state_of w.state w.pages.list w.stored w.failed w.clusters };
 
     ghost invariant = { λ w. w.failed ≡ false
-        → Stands M.dist M.KIND w.state w.pages.list w.clusters };
+        → Stands M.dist M.KIND w.stored w.state w.pages.list w.clusters };
 }
 
 impl<M: Metric> Warehouse<M> {
@@ -92,6 +93,26 @@ impl<M: Metric> Warehouse<M> {
             state,
             clusters,
             stored: true,
+            failed: false,
+        })
+    }
+
+    /// A warehouse of no records, without a store. The metric is to be that of the parameters.
+    pub fn fresh(alloc: Global, params: Params) -> Result<Warehouse<M>, AllocError>
+        requires kind { params.metric ≡ M.KIND }
+        ensures values { IfOk result (λ w. w.values ≡ values_of params) }
+        ensures rows { IfOk result (λ w. w.rows ≡ map.empty) }
+        ensures batches { IfOk result (λ w. w.batches ≡ 0) }
+        ensures unstored { IfOk result (λ w. w.stored ≡ false) }
+        ensures whole { IfOk result (λ w. w.failed ≡ false) }
+    {
+        let width = params.width();
+        Ok(Warehouse {
+            alloc,
+            pages: Pages::new(alloc),
+            state: Loaded::new(alloc, &params),
+            clusters: Clusters::new(alloc, width, params.eps, params.minpts),
+            stored: false,
             failed: false,
         })
     }
@@ -235,7 +256,52 @@ impl<M: Metric> Warehouse<M> {
         Ok(())
     }
 
-    /// Whether it has failed: exactly after `SiteFault` or `Memory` of `apply`.
+    /// Applies changes to a warehouse without a store, in their order, and appends their events.
+    /// After want of memory the warehouse has failed.
+    pub fn apply_unsaved<L: Ledger>(
+        &mut self,
+        changes: &Changes,
+        out: &mut Events,
+        steps: &mut Steps<L>,
+    ) -> Result<(), AllocError>
+        requires unstored { self.old.stored ≡ false }
+        requires whole { self.old.failed ≡ false }
+        requires fits { AllByRecursion
+            (IsChangeOf (width_of self.old.values.metric self.old.values.dim)) changes.now }
+        requires spelled { AllByRecursion
+            (IsSpelledChange self.old.values.metric self.old.values.dim) changes.now }
+        requires accepted { IsOk (after self.old.values.cap self.old.rows changes.now) }
+        ensures values { OnOk result (self.new.values ≡ self.old.values) }
+        ensures rows { OnOk result
+            (self.new.rows ≡ rows_after self.old.values self.old.rows changes.now) }
+        ensures events { OnOk result (out.new
+            ≡ out.old ++ events_of self.old.values self.old.rows changes.now) }
+        ensures batches { OnOk result (self.new.batches ≡ self.old.batches) }
+        ensures unstored { self.new.stored ≡ false }
+        ensures whole { OnOk result (self.new.failed ≡ false) }
+        ensures failed { OnErr result (self.new.failed ≡ true) }
+        ensures price { ArePaid M.most
+            (density M.dist self.old.values.eps self.old.values.minpts) self.old.tree
+            (held_in self.old) changes.now steps.old steps.new }
+        ensures work { steps.new ≤ steps.old
+            + work_of_all (density_by self.old.values) (held_in self.old) changes.now }
+        ensures tree { OnOk result (self.new.tree
+            ≡ tree_after_all M.dist M.most (held_in self.old) changes.now self.old.tree) }
+    {
+        self.failed = true;
+        let alloc = self.alloc;
+        let params = self.state.head.params;
+        let own = copy_changes(alloc, changes.as_slice())?;
+        let records = &mut self.state.records;
+        let clusters = &mut self.clusters;
+        let events = apply_changes::<M, L>(alloc, &params, records, clusters, own, steps)?;
+        append_events(events.as_slice(), out)?;
+        self.failed = false;
+        Ok(())
+    }
+
+    /// Whether it has failed: exactly after `SiteFault` or `Memory` of `apply`, or want of memory
+    /// of `apply_unsaved`.
     pub fn failed(&self) -> bool
         ensures { result ≡ self.now.failed }
     {

@@ -6,7 +6,7 @@ use Rattle.warehouse_core.specs.declared.refusal.Refusal.{Refusal}
 use Rattle.warehouse_core.specs.Batches.{density_by}
 use Rattle.warehouse_core.specs.Costs.{ArePaid, work_of_all, tree_after_all}
 use Rattle.warehouse_core.specs.States.{State, held_in}
-use Rattle.warehouse_core.proofs.Moments.{stands, unwritten}
+use Rattle.warehouse_core.proofs.Moments.{paged, unwritten}
 use Rattle.warehouse_core.proofs.Spent.{never_paid, never_worked}
 use Rattle.warehouse_core.proofs.warehouse.Warehouse.apply.Goals as goal
 
@@ -16,11 +16,11 @@ returns-in-Ok-clause-moments g c = λ told.
 
 pub returns-then-eq-clause-moments : goal.returns-then-eq-clause-moments
 returns-then-eq-clause-moments g c = λ told.
-    unwritten c.loads_are_stores.ensures _ _ _ _ _ (stands _ _ _ _ _ _ _ _ c.self.invariant c.self.view_is c.requires.whole) _ _ _ _ _ _ c.self.view_is (c.requires.ready told) (g.met.T.Site.is_now c.args.site.now told)
+    unwritten c.loads_are_stores.ensures c.self.inside.state c.self.inside.pages.list c.self.inside.clusters (paged _ _ _ _ _ _ _ _ c.self.invariant c.self.view_is c.requires.whole c.requires.stored) _ _ _ _ _ _ c.self.view_is (c.requires.ready told) (g.met.T.Site.is_now c.args.site.now told)
 
 pub returns-else-eq-clause-moments : goal.returns-else-eq-clause-moments
 returns-else-eq-clause-moments g c = λ told.
-    unwritten c.loads_are_stores.ensures _ _ _ _ _ (stands _ _ _ _ _ _ _ _ c.self.invariant c.self.view_is c.requires.whole) _ _ _ _ _ _ c.self.view_is (c.requires.ready told) (g.met.T.Site.is_now c.args.site.now told)
+    unwritten c.loads_are_stores.ensures c.self.inside.state c.self.inside.pages.list c.self.inside.clusters (paged _ _ _ _ _ _ _ _ c.self.invariant c.self.view_is c.requires.whole c.requires.stored) _ _ _ _ _ _ c.self.view_is (c.requires.ready told) (g.met.T.Site.is_now c.args.site.now told)
 
 pub returns-in-Ok-clause-price : goal.returns-in-Ok-clause-price
 returns-in-Ok-clause-price g c =

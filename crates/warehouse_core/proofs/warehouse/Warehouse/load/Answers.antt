@@ -1,4 +1,4 @@
-use Rattle.std.proofs.Common.{refl, sym, subst, arith}
+use Rattle.std.proofs.Common.{true, refl, sym, subst, arith}
 use Rattle.page_layout.specs.Heads.{plain}
 use Rattle.store_image.specs.declared.loaded.Loaded.{Loaded}
 use Rattle.store_image.specs.Images.{image_of}
@@ -17,10 +17,9 @@ cluster-requires g c =
 pub invariant_of-result : goal.invariant_of-result
 invariant_of-result g c = λ whole.
     let loaded = c.in_ok-state.ensures in
-    let P : Loaded → Type 0 = λ s. Stands g.M.Metric.dist g.M.Metric.KIND s c.args.pages.list c.in_ok-state-2.clusters in
+    let P : Loaded → Type 0 = λ s. Stands g.M.Metric.dist g.M.Metric.KIND true s c.args.pages.list c.in_ok-state-2.clusters in
     subst P (sym c.in_ok-state-2.ensures.state) (record {
-      at = loaded.at;
-      loads = loaded.loaded;
+      paged = λ _. record { at = loaded.at; loads = loaded.loaded };
       kind_is = same_kind _ (plain c.in_ok-state.state.head) _ _ loaded.at c.requires.kind;
       holds = record { held = record { width = loaded.width; each = loaded.standing }; few = loaded.few };
       clusters = c.in_ok-state-2.ensures.clusters;
