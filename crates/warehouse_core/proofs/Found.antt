@@ -1,9 +1,8 @@
 -- What clusters say of the records of a store, by the metric of its parameters.
 use Rattle.std.proofs.Common.{◌≡◌, ℕ, ◌≤◌, cond, List, ◌++◌, Some, None, sym, ap, ◌∙◌, arith}
-use Rattle.std.specs.List.{AllByRecursion}
 use Rattle.std.specs.FinMap as maps
 use Rattle.vec_record.specs.Distance.{distance_of}
-use Rattle.vec_record.specs.Held.{Held, Rows}
+use Rattle.vec_record.specs.Held.{Held}
 use Rattle.vec_record.specs.Limits.{width_of}
 use Rattle.vec_record.specs.Vectors.{IsVector}
 use Rattle.vec_record.specs.declared.change.Change.{Change}

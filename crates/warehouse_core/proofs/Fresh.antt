@@ -1,9 +1,9 @@
 -- A warehouse of no records, without a store.
-use Rattle.std.proofs.Common.{◌≡◌, ℕ, ◌≤◌, false, true, List, refl, sym, ap, subst, ◌∙◌, arith}
+use Rattle.std.proofs.Common.{◌≡◌, ℕ, false, List, refl, sym, ap, subst, ◌∙◌, arith}
 use Rattle.std.specs.Ordering.{nat_cmp}
 use Rattle.std.specs.FinMap as maps
 use Rattle.std.proofs.lemmas.Bool.{false≢true}
-use Rattle.vec_record.specs.Held.{Held, Rows}
+use Rattle.vec_record.specs.Held.{Held}
 use Rattle.vec_record.specs.Limits.{width_of}
 use Rattle.vec_record.specs.declared.kind.MetricKind.{MetricKind}
 use Rattle.page_layout.specs.Heads.{Values, plain}

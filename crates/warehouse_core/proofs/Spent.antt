@@ -1,5 +1,5 @@
 -- What changes cost a warehouse, from what they cost its records and clusters.
-use Rattle.std.proofs.Common.{◌≡◌, ℕ, ◌+◌, ◌≤◌, Bool, List, Result, Ok, Err, IfOk, refl, sym, ap, subst, ◌∙◌, arith}
+use Rattle.std.proofs.Common.{◌≡◌, ℕ, ◌+◌, ◌≤◌, Bool, List, Result, Ok, Err, IfOk, subst, arith}
 use Rattle.vec_record.specs.Held.{Held}
 use Rattle.vec_record.specs.Limits.{width_of}
 use Rattle.vec_record.specs.declared.change.Change.{Change}

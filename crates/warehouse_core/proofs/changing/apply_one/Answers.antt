@@ -1,4 +1,4 @@
-use Rattle.std.proofs.Common.{◌≡◌, ℕ, ◌+◌, ◌≤◌, List, OnOk, sym, ap, subst, ◌∙◌}
+use Rattle.std.proofs.Common.{◌≡◌, ◌+◌, ◌≤◌, OnOk, sym, ap, subst, ◌∙◌}
 use Rattle.vec_record.specs.Distance.{distance_of}
 use Rattle.vec_record.specs.Limits.{width_of}
 use Rattle.vec_record.specs.declared.change.Change.{Change}

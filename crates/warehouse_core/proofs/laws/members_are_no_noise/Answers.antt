@@ -1,11 +1,10 @@
-use Rattle.std.proofs.Common.{◌≡◌, ℕ, Bool, true, false, cond, List, [], ◌∷◌, filter, Some, None, refl, subst}
+use Rattle.std.proofs.Common.{◌≡◌, ℕ, true, false, cond, List, [], ◌∷◌, filter, Some, None, refl, subst}
 use Rattle.std.specs.List.{AllByRecursion, list_any}
 use Rattle.std.proofs.lemmas.Option.{none-some, same_Some}
 use Rattle.plain_dbscan.specs.declared.marks.Mark.{Mark}
 use Rattle.plain_dbscan.specs.declared.marks.Mark.TheVariants.{Core, Border, Noise}
 use Rattle.plain_dbscan.specs.Cases.{is_core_of, is_member_of}
 use Rattle.plain_dbscan.specs.Texts.{is_noise_mark}
-use Rattle.warehouse_core.specs.Queries.{members_of}
 use Rattle.warehouse_core.proofs.laws.members_are_no_noise.Goals as goal
 
 abbrev NoNoise : List (ℕ × Mark) → Type 0

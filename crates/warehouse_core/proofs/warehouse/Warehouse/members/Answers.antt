@@ -1,14 +1,12 @@
-use Rattle.std.proofs.Common.{◌≡◌, ℕ, List, IfOk, Some, sym, ap, subst, ◌∙◌}
+use Rattle.std.proofs.Common.{◌≡◌, IfOk, sym, ap, subst, ◌∙◌}
 use Rattle.std.proofs.lemmas.Result.{IfOk-weaker}
 use Rattle.vec_record.specs.Distance.{distance_of}
 use Rattle.page_layout.specs.Heads.{plain}
-use Rattle.plain_dbscan.specs.Cases.{Listed}
-use Rattle.cluster_report.specs.Counts.{summary_of}
 use Rattle.warehouse_core.specs.Batches.{marks_on}
-use Rattle.warehouse_core.specs.Queries.{mark_on, members_of, near_on}
+use Rattle.warehouse_core.specs.Queries.{members_of}
 use Rattle.warehouse_core.specs.States.{State}
 use Rattle.warehouse_core.proofs.Alike.{lawful_width}
-use Rattle.warehouse_core.proofs.Found.{IsDistance, marks_found, mark_found, near_found}
+use Rattle.warehouse_core.proofs.Found.{IsDistance, marks_found}
 use Rattle.warehouse_core.proofs.Moments.{stands}
 use Rattle.warehouse_core.proofs.warehouse.Warehouse.members.Goals as goal
 
