@@ -12,7 +12,7 @@ const REFUSALS: &str = "11 malformed record, 12 vector of the wrong length, 13 n
 23 no cluster has the label, 24 slot is empty";
 
 /// Where there is no command.
-const NO_WORD: &str = "there was no word, or one that isn't UTF-8: give once, init or serve";
+const NO_WORD: &str = "there was no word, or one that isn't UTF-8: give once, init, serve or trial";
 
 /// Where something was refused.
 const REFUSED: &str = "what was refused changed nothing: correct it and give it again";
@@ -41,6 +41,28 @@ fn is_within(word: &str, least: u32, most: u32) -> bool {
     }
 }
 
+/// The least and the greatest value of a word, and what to say where it is another.
+type Limit = (u32, u32, &'static str);
+
+/// The first of some words that is off its limits, and what it should be.
+fn first_beyond<'a>(words: &'a [String], limits: &[Limit]) -> Option<(&'a str, &'static str)> {
+    for (word, limit) in words.iter().zip(limits) {
+        if !is_within(word.as_str(), limit.0, limit.1) {
+            return Some((word.as_str(), limit.2));
+        }
+    }
+    None
+}
+
+/// The first word behind `trial` that is off, and what it should be.
+fn first_off_trial(words: &[String]) -> Option<(&str, &'static str)> {
+    let limits = [
+        (0, u32::MAX, "SEED is 0 to 4294967295"),
+        (1, 100_000, "COUNT is 1 to 100000"),
+    ];
+    first_beyond(words.get(1..)?, &limits)
+}
+
 /// The first word behind `once` or `init` that is off, and what it should be.
 fn first_off(words: &[String]) -> Option<(&str, &'static str)> {
     let metric = words.get(1)?;
@@ -55,28 +77,22 @@ fn first_off(words: &[String]) -> Option<(&str, &'static str)> {
         (1, 65_535, "MINPTS is 1 to 65535"),
         (1, 200_000, "CAP is 1 to 200000"),
     ];
-    for i in 0..limits.len() {
-        let word = words.get(i + 2)?;
-        let (least, most, due) = limits[i];
-        if !is_within(word.as_str(), least, most) {
-            return Some((word.as_str(), due));
-        }
-    }
-    None
+    first_beyond(words.get(2..)?, &limits)
 }
 
-/// Which of the words behind a command is off.
+/// Which of the words behind a command is off, where their number is right.
 fn explain_values(
     rt: &HostRuntime,
     command: &str,
     words: &[String],
     count: usize,
+    off: Option<(&str, &'static str)>,
 ) -> io::Result<()> {
     let given = words.len().saturating_sub(1);
     if given != count {
         return eprintln!(rt; "densewh: {command} takes {count} words behind it, and not {given}");
     }
-    match first_off(words) {
+    match off {
         Some((word, due)) => eprintln!(rt; "densewh: {due}, and not {word:?}"),
         None => eprintln!(rt; "densewh: the words have no known form"),
     }
@@ -88,10 +104,13 @@ fn explain_words(rt: &HostRuntime, words: &[String]) -> io::Result<()> {
         return eprintln!(rt; "densewh: {NO_WORD}");
     };
     match command.as_str() {
-        "once" => explain_values(rt, "once", words, 4),
-        "init" => explain_values(rt, "init", words, 5),
-        "serve" => explain_values(rt, "serve", words, 0),
-        other => eprintln!(rt; "densewh: {other:?} is no command today: give once, init or serve"),
+        "once" => explain_values(rt, "once", words, 4, first_off(words)),
+        "init" => explain_values(rt, "init", words, 5, first_off(words)),
+        "serve" => explain_values(rt, "serve", words, 0, None),
+        "trial" => explain_values(rt, "trial", words, 2, first_off_trial(words)),
+        other => {
+            eprintln!(rt; "densewh: {other:?} is no command today: give once, init, serve or trial")
+        }
     }
 }
 

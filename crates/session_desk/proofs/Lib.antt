@@ -15,3 +15,4 @@ pub mod Turns
 pub mod Serving
 pub mod LifeLaws
 pub mod Verdicts
+pub mod Trials

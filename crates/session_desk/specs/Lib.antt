@@ -13,6 +13,8 @@ pub mod Passing
 pub mod Courses
 pub mod Headline
 pub mod Births
+pub mod Trial
+pub mod Trying
 pub mod Bearing
 pub mod Talks
 pub mod Opened

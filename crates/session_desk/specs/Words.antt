@@ -48,6 +48,7 @@ pub data Command : Type 0 where
   Once : Setting → Command
   Init : Values → Command
   Serve : Command
+  Trial : ℕ → ℕ → Command
 
 abbrev pub once_of : Option Setting → Option Command
 once_of None = None
@@ -69,6 +70,18 @@ init_of (init ∷ metric ∷ dim ∷ eps ∷ minpts ∷ cap ∷ []) =
     if bytes_eq init (codes "init") then checked_values (metric_named metric) (number_in dim) (number_in eps) (number_in minpts) (number_in cap) else None
 init_of words = None
 
+-- the seed and the count of a trial, where both are there and within their limits
+abbrev pub checked_trial : Option ℕ → Option ℕ → Option Command
+checked_trial None count = None
+checked_trial (Some seed) None = None
+checked_trial (Some seed) (Some count) = Some (Trial seed count)
+
+-- the words `trial SEED COUNT`
+abbrev pub trial_of : List (List ℕ) → Option Command
+trial_of (trial ∷ seed ∷ count ∷ []) =
+    if bytes_eq trial (codes "trial") then checked_trial (number_in seed) (within 1 100000 (number_of count)) else None
+trial_of words = None
+
 -- the word `serve`
 abbrev pub is_serve : List (List ℕ) → Bool
 is_serve (serve ∷ []) = bytes_eq serve (codes "serve")
@@ -80,11 +93,13 @@ or_else (Some command) next = Some command
 
 -- what all the words ask for, where they have a known form
 abbrev pub command_of : List (List ℕ) → Option Command
-command_of words = if is_serve words then Some Serve else or_else (init_of words) (once_of (setting_of words))
+command_of words =
+    if is_serve words then Some Serve else or_else (init_of words) (or_else (trial_of words) (once_of (setting_of words)))
 
--- whether the words ask for a store; `once` and refused words ask for none
-abbrev pub asks_store : Option Command → Bool
-asks_store None = false
-asks_store (Some (Once s)) = false
-asks_store (Some (Init v)) = true
-asks_store (Some Serve) = true
+-- whether the words ask for more than an answer to the input: a store or a trial; `once` and refused words don't
+abbrev pub asks_more : Option Command → Bool
+asks_more None = false
+asks_more (Some (Once s)) = false
+asks_more (Some (Init v)) = true
+asks_more (Some Serve) = true
+asks_more (Some (Trial seed count)) = true

@@ -19,6 +19,7 @@ mod session;
 pub mod status;
 mod texts;
 pub mod top;
+mod trial;
 mod words;
 
 pub use lines::{LineReader, SessionLine};

@@ -9,7 +9,9 @@ ghost use Rattle.page_layout.specs.Heads.{Values};
 ghost use Rattle.event_feed.specs.Meanings.{filled};
 ghost use Rattle.session_desk.specs.Moments.{Says, LeavesAlone};
 ghost use Rattle.session_desk.specs.Statuses.{is_fault};
-ghost use Rattle.session_desk.specs.Words.{Init, Serve, setting_of, command_of, asks_store};
+ghost use Rattle.session_desk.specs.Words.{Init, Serve, Trial, setting_of, command_of};
+ghost use Rattle.session_desk.specs.Words.{asks_more};
+ghost use Rattle.session_desk.specs.Trial.{trial_text, trial_work};
 ghost use Rattle.session_desk.specs.Reading.{IsTaken};
 ghost use Rattle.session_desk.specs.Answers.{usage_text, answer_of};
 ghost use Rattle.session_desk.specs.Births.{birth_due, IsBirthMoment, IsBorn};
@@ -21,6 +23,7 @@ use crate::reading::INPUT_LIMIT;
 use crate::saying::say;
 use crate::serve::serve;
 use crate::status::Status;
+use crate::trial::run_trial;
 use crate::words::{Task, read_words};
 use event_feed::Watcher;
 use site_disk::{Site, Source};
@@ -89,24 +92,46 @@ pub fn run<S: Source, T: Site, L: Ledger>(
     // `once` and refused words: the status and the text are those that are due to the words and the
     // whole input, and the content and the images are left alone.
     ensures status { IsTrue S.tells
-        → asks_store (command_of (map string_bytes words.now)) ≡ false
+        → asks_more (command_of (map string_bytes words.now)) ≡ false
         → is_fault result ≡ false
         → result
         ≡ (answer_of (setting_of (map string_bytes words.now)) (S.left source.old)).status }
     ensures says { IsTrue S.tells → IsTrue T.tells
-        → asks_store (command_of (map string_bytes words.now)) ≡ false
+        → asks_more (command_of (map string_bytes words.now)) ≡ false
         → Says (answer_of (setting_of (map string_bytes words.now)) (S.left source.old)).text result
         (T.state site.old) (T.state site.new) }
     ensures alone { IsTrue T.tells
-        → asks_store (command_of (map string_bytes words.now)) ≡ false
+        → asks_more (command_of (map string_bytes words.now)) ≡ false
         → LeavesAlone (T.state site.old) (T.state site.new) }
     ensures quiet { IsTrue T.tells
-        → asks_store (command_of (map string_bytes words.now)) ≡ false
+        → asks_more (command_of (map string_bytes words.now)) ≡ false
         → (result ≡ Status.SourceFault) ⊎ (result ≡ Status.Memory)
         → (T.state site.new).said ≡ (T.state site.old).said }
     ensures once_ended { IsTrue S.tells
-        → asks_store (command_of (map string_bytes words.now)) ≡ false
+        → asks_more (command_of (map string_bytes words.now)) ≡ false
         → (result ≡ Status.Fine) ⊎ (result ≡ Status.Refused) → S.left source.new ≡ [] }
+
+    // `trial`: the text that is due to the seed and the count; nothing is read, and the content and
+    // the images are left alone.
+    ensures trial_status { (seed count : ℕ)
+        → command_of (map string_bytes words.now) ≡ Some (Trial seed count)
+        → (result ≡ Status.Fine) ⊎ (result ≡ Status.SiteFault) ⊎ (result ≡ Status.Memory) }
+    ensures trial_says { (seed count : ℕ) → IsTrue T.tells
+        → command_of (map string_bytes words.now) ≡ Some (Trial seed count)
+        → Says (trial_text seed count) result (T.state site.old) (T.state site.new) }
+    ensures trial_alone { (seed count : ℕ) → IsTrue T.tells
+        → command_of (map string_bytes words.now) ≡ Some (Trial seed count)
+        → LeavesAlone (T.state site.old) (T.state site.new) }
+    ensures trial_unread { (seed count : ℕ) → IsTrue S.tells
+        → command_of (map string_bytes words.now) ≡ Some (Trial seed count)
+        → S.left source.new ≡ S.left source.old }
+    ensures trial_quiet { (seed count : ℕ) → IsTrue T.tells
+        → command_of (map string_bytes words.now) ≡ Some (Trial seed count)
+        → result ≡ Status.Memory
+        → (T.state site.new).said ≡ (T.state site.old).said }
+    ensures trial_work { (seed count : ℕ)
+        → command_of (map string_bytes words.now) ≡ Some (Trial seed count)
+        → steps.new ≤ steps.old + trial_work seed count }
 
     // Words of no known form end with the usage line, and nothing is read.
     ensures words { result ≡ Status.Words → command_of (map string_bytes words.now) ≡ None }
@@ -137,5 +162,6 @@ pub fn run<S: Source, T: Site, L: Ledger>(
         Some(Task::Once(params)) => run_once(alloc, &params, source, site, steps),
         Some(Task::Init(params)) => init(alloc, &params, site),
         Some(Task::Serve) => serve(alloc, source, site, watchers, steps),
+        Some(Task::Trial(trial)) => run_trial(alloc, trial, site, steps),
     }
 }

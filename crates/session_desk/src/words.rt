@@ -3,20 +3,26 @@
 ghost use Rattle.std.specs.Prelude.{◌≡◌, map, string_bytes};
 ghost use Rattle.session_desk.specs.Words.{metric_named as named, number_in, checked};
 ghost use Rattle.session_desk.specs.Words.{checked_values, setting_of, init_of, is_serve};
+ghost use Rattle.session_desk.specs.Words.{trial_of};
 ghost use Rattle.session_desk.specs.Words.{command_of};
-ghost use Rattle.session_desk.specs.Settings.{IsSetting, IsInit, IsTask};
+ghost use Rattle.session_desk.specs.Settings.{IsSetting, IsInit, IsTrial, IsTask};
 
+use crate::trial::Trial;
 use batch_text::number::number_within;
 use vec_record::{MetricKind, Params};
 
 /// The most records that `once` clusters.
 const CAP: u32 = 200_000;
 
+/// The most changes of a trial.
+const MOST_CHANGES: u32 = 100_000;
+
 /// What the words ask the program for.
 pub enum Task {
     Once(Params),
     Init(Params),
     Serve,
+    Trial(Trial),
 }
 
 /// The metric of a name.
@@ -126,6 +132,21 @@ fn are_serve(words: &[String]) -> bool
     serve.as_str() == "serve"
 }
 
+/// The trial that the words `trial SEED COUNT` ask for, or `None` for any other words.
+fn read_trial(words: &[String]) -> Option<Trial>
+    ensures { IsTrial result (trial_of (map string_bytes words.now)) }
+{
+    let [trial, seed, count] = words else {
+        return None;
+    };
+    if trial.as_str() != "trial" {
+        return None;
+    }
+    let seed = number(seed.as_str())?;
+    let count = number_within(count.as_bytes(), 1, MOST_CHANGES)?;
+    Some(Trial { seed, count })
+}
+
 /// What the words ask for, or `None` for words of no known form.
 pub fn read_words(words: &[String]) -> Option<Task>
     ensures { IsTask result (command_of (map string_bytes words.now))
@@ -136,6 +157,9 @@ pub fn read_words(words: &[String]) -> Option<Task>
     }
     if let Some(params) = read_init(words) {
         return Some(Task::Init(params));
+    }
+    if let Some(trial) = read_trial(words) {
+        return Some(Task::Trial(trial));
     }
     Some(Task::Once(read_once(words)?))
 }

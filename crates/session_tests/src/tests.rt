@@ -16,6 +16,7 @@ mod lines;
 mod lives;
 mod questions;
 mod stores;
+mod trials;
 mod watching;
 
 const USAGE: &str =

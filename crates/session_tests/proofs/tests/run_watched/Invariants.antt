@@ -1,4 +1,4 @@
 use Rattle.session_tests.proofs.tests.run_watched.Given as goal
 
 abbrev pub ghosts-run_with : goal.ghosts-run_with
-ghosts-run_with a = record { name = a.blank.name; parts = a.blank.parts }
+ghosts-run_with a b = record { name = b.blank.name; parts = b.blank.parts }
