@@ -11,7 +11,8 @@ use Rattle.update_seed.specs.Books.{IsHeld}
 use Rattle.insert_case.specs.Inserted as insertion
 use Rattle.delete_case.specs.Deleted as deletion
 use Rattle.kept_clusters.specs.Kept.{Kept, density_in}
-use Rattle.kept_clusters.specs.Paid.{tree_without, IsInsertionPaid, IsDeletionPaid, insertion_work, deletion_work}
+use Rattle.kept_clusters.specs.Paid.{tree_without, IsInsertionPaid, IsDeletionPaid}
+use Rattle.kept_clusters.specs.Work.{insertion_work, deletion_work}
 use Rattle.kept_clusters.proofs.Cheap.{IsAtMost, insertion_cheap, deletion_cheap, cheap_of_index, cheap_paid, little_paid, little_work}
 
 pub both_ok : {T E A B C : Type 0} (r : Result T E) → (A → B → C) → OnOk r A → OnOk r B → OnOk r C

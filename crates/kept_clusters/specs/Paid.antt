@@ -1,9 +1,7 @@
--- What a change may cost, by the tree, and by the number of records alone.
+-- What a change may cost, by the tree.
 use Rattle.std.specs.Prelude.{ℕ, List, unwrap_or}
-use Rattle.std.specs.FinMap as map
 use Rattle.vec_record.specs.Held.{Held}
 use Rattle.plain_dbscan.specs.Marks.{Density}
-use Rattle.plain_dbscan.specs.Asked.{asked_of_insertion, asked_of_deletion, work}
 use Rattle.mtree_index.specs.Plain.{PlainTree}
 use Rattle.mtree_index.specs.Tree.{query_cost, after_insertion}
 use Rattle.mtree_index.specs.Shrinking.{after_removal}
@@ -27,17 +25,3 @@ abbrev pub IsDeletionPaid : (ℕ → ℕ) → Density → PlainTree → Held →
 IsDeletionPaid most d tree records number steps steps' =
     let next = tree_without d.dist most number (deletion.vector_at records number) tree in
     deletion.IsPaid d (query_cost d.dist tree) (query_cost d.dist next) records number steps steps'
-
--- The most distances of an insertion, whatever the tree.
-abbrev pub insertion_work : Density → Held → ℕ → List ℕ → ℕ
-insertion_work d records number v =
-    let before = map.entries records.vectors in
-    let after = map.entries (map.insert records.vectors number v) in
-    work (asked_of_insertion d before after number) before after
-
--- The most distances of a deletion, whatever the tree.
-abbrev pub deletion_work : Density → Held → ℕ → ℕ
-deletion_work d records number =
-    let before = map.entries records.vectors in
-    let after = map.entries (map.remove records.vectors number) in
-    work (asked_of_deletion d before after number) before after

@@ -11,7 +11,7 @@ ghost use Rattle.mtree_index.specs.Shrinking.{IsRemoved};
 ghost use Rattle.kept_clusters.specs.Kept.{nothing_kept, no_records, density_in, Fit, Stand};
 ghost use Rattle.kept_clusters.specs.Kept.{HasItsSetting};
 ghost use Rattle.kept_clusters.specs.Paid.{IsInsertionPaid, IsDeletionPaid};
-ghost use Rattle.kept_clusters.specs.Paid.{insertion_work, deletion_work};
+ghost use Rattle.kept_clusters.specs.Work.{insertion_work, deletion_work};
 
 use count_book::CountBook;
 use delete_case::delete_change;

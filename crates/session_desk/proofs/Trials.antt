@@ -22,7 +22,7 @@ use Rattle.event_feed.specs.Meanings.{Meaning, Slots, filled, told, told_all, te
 use Rattle.event_feed.specs.Texts.{tally_text}
 use Rattle.plain_dbscan.specs.Cases.{cases_of}
 use Rattle.warehouse_core.specs.Batches.{density_by, events_of, marks_on, or_else, rows_after}
-use Rattle.warehouse_core.specs.Costs.{work_of, work_of_all}
+use Rattle.warehouse_core.specs.Work.{work_of, work_of_all}
 use Rattle.warehouse_core.specs.States.{State}
 use Rattle.site_disk.specs.State.{SiteState}
 use Rattle.session_desk.specs.declared.status.Status.{Status}

@@ -10,7 +10,7 @@ use Rattle.page_layout.specs.Heads.{Values}
 use Rattle.batch_text.specs.After.{changed}
 use Rattle.event_feed.specs.Texts.{tally_text}
 use Rattle.warehouse_core.specs.Batches.{density_by, marks_on, rows_after, events_of}
-use Rattle.warehouse_core.specs.Costs.{work_of_all}
+use Rattle.warehouse_core.specs.Work.{work_of_all}
 
 -- the parameters of every trial
 abbrev pub trial_values : Values

@@ -7,7 +7,7 @@ ghost use Rattle.batch_text.specs.After.{after};
 ghost use Rattle.batch_text.specs.Batch.{IsChangeOf};
 ghost use Rattle.event_feed.specs.Meanings.{meanings, told_all};
 ghost use Rattle.warehouse_core.specs.Batches.{density_by, events_of, rows_after};
-ghost use Rattle.warehouse_core.specs.Costs.{work_of};
+ghost use Rattle.warehouse_core.specs.Work.{work_of};
 ghost use Rattle.site_disk.specs.Causes.{Rose};
 ghost use Rattle.session_desk.specs.Moments.{Says, LeavesAlone};
 ghost use Rattle.session_desk.specs.Trial.{draw, drawn_number, coordinate, drawn_change};

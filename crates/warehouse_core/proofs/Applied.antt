@@ -26,7 +26,8 @@ use Rattle.batch_text.specs.declared.faults.CheckFault.TheVariants.{Repeated, Un
 use Rattle.kept_clusters.specs.Kept.{Kept}
 use Rattle.mtree_index.specs.Plain.{PlainTree}
 use Rattle.warehouse_core.specs.Batches.{density_by, events_of, marks_on, or_else, rows_after}
-use Rattle.warehouse_core.specs.Costs.{held_after, tree_after, tree_after_all, IsPaid, ArePaid, work_of, work_of_all}
+use Rattle.warehouse_core.specs.Costs.{tree_after, tree_after_all, IsPaid, ArePaid}
+use Rattle.warehouse_core.specs.Work.{held_after, work_of, work_of_all}
 use Rattle.plain_dbscan.specs.Marks.{Density, density, Entries}
 use Rattle.warehouse_core.specs.Inside.{AreHeld, CanHold, CanFollow, StandBy}
 use Rattle.warehouse_core.proofs.Alike.{found_so, same_key}

@@ -16,7 +16,8 @@ use Rattle.kept_clusters.specs.Kept.{Kept, density_in, Stand, HasItsSetting}
 use Rattle.kept_clusters.specs.Paid.{tree_without}
 use Rattle.batch_text.specs.Batch.{IsChangeOf, IsSpelledChange}
 use Rattle.warehouse_core.specs.Batches.{density_by, marks_on}
-use Rattle.warehouse_core.specs.Costs.{held_after, IsPaid, work_of}
+use Rattle.warehouse_core.specs.Costs.{IsPaid}
+use Rattle.warehouse_core.specs.Work.{held_after, work_of}
 use Rattle.warehouse_core.specs.Inside.{AreHeld, StandBy}
 use Rattle.warehouse_core.proofs.Applied.{held_changed}
 use Rattle.warehouse_core.proofs.Found.{IsDistance, density_is, told_found, work_found}

@@ -17,7 +17,7 @@ use Rattle.delete_case.specs.Told.{AreCasesTold}
 use Rattle.kept_clusters.specs.Kept.{Kept, density_in, marks_in}
 use Rattle.kept_clusters.specs.Asked.{mark_due}
 use Rattle.warehouse_core.specs.Batches.{density_by, marks_on}
-use Rattle.warehouse_core.specs.Costs.{work_of, held_after}
+use Rattle.warehouse_core.specs.Work.{work_of, held_after}
 use Rattle.warehouse_core.specs.Queries.{mark_on, near_on}
 use Rattle.batch_text.specs.Batch.{IsChangeOf}
 use Rattle.insert_case.specs.Inserted.{IsAddable}

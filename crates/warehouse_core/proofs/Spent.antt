@@ -9,7 +9,8 @@ use Rattle.page_layout.specs.Heads.{plain}
 use Rattle.store_image.specs.declared.loaded.Loaded.{Loaded}
 use Rattle.kept_clusters.specs.Kept.{Kept}
 use Rattle.warehouse_core.specs.Batches.{density_by}
-use Rattle.warehouse_core.specs.Costs.{ArePaid, work_of_all, tree_after_all}
+use Rattle.warehouse_core.specs.Costs.{ArePaid, tree_after_all}
+use Rattle.warehouse_core.specs.Work.{work_of_all}
 use Rattle.warehouse_core.specs.Inside.{state_of}
 use Rattle.warehouse_core.specs.States.{State, held_in}
 use Rattle.warehouse_core.proofs.Applied.{nothing_paid}

@@ -1,5 +1,5 @@
--- What changes may cost one after another: by the tree that is kept, and by the number of records alone.
-use Rattle.std.specs.Prelude.{ℕ, ◌+◌, ◌≤◌, List, [], ◌∷◌}
+-- What changes may cost one after another, by the tree that is kept.
+use Rattle.std.specs.Prelude.{ℕ, ◌≤◌, List, [], ◌∷◌}
 use Rattle.vec_record.specs.Held.{Held}
 use Rattle.vec_record.specs.declared.change.Change.{Change}
 use Rattle.vec_record.specs.declared.change.Change.TheVariants.{Insert, Delete}
@@ -8,12 +8,7 @@ use Rattle.mtree_index.specs.Plain.{PlainTree}
 use Rattle.mtree_index.specs.Tree.{after_insertion}
 use Rattle.delete_case.specs.Deleted.{vector_at}
 use Rattle.kept_clusters.specs.Paid.{tree_without, IsInsertionPaid, IsDeletionPaid}
-use Rattle.kept_clusters.specs.Paid.{insertion_work, deletion_work}
-use Rattle.batch_text.specs.After.{changed}
-
--- the records with one change that can apply
-abbrev pub held_after : Held → Change → Held
-held_after records c = record records { vectors = changed records.vectors c }
+use Rattle.warehouse_core.specs.Work.{held_after}
 
 -- the tree after one change
 abbrev pub tree_after :
@@ -42,13 +37,3 @@ ArePaid most d tree records [] steps steps' = steps' ≤ steps
 ArePaid most d tree records (c ∷ cs) steps steps' =
     (between : ℕ) × (IsPaid most d tree records c steps between
     × ArePaid most d (tree_after d.dist most records c tree) (held_after records c) cs between steps')
-
--- the most distances of one change, whatever the tree
-abbrev pub work_of : Density → Held → Change → ℕ
-work_of d records (Insert n v) = insertion_work d records n v
-work_of d records (Delete n) = deletion_work d records n
-
--- the most distances of changes in order
-abbrev pub work_of_all : Density → Held → List Change → ℕ
-work_of_all d records [] = 0
-work_of_all d records (c ∷ cs) = work_of d records c + work_of_all d (held_after records c) cs

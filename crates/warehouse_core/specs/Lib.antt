@@ -3,5 +3,6 @@ pub mod Receipts
 pub mod States
 pub mod Applying
 pub mod Queries
+pub mod Work
 pub mod Costs
 pub mod Inside

@@ -8,8 +8,10 @@ ghost use Rattle.page_layout.specs.Heads.{values_of};
 ghost use Rattle.batch_text.specs.After.{after};
 ghost use Rattle.batch_text.specs.Batch.{IsChangeOf, IsSpelledChange};
 ghost use Rattle.warehouse_core.specs.Batches.{density_by, events_of, marks_on, rows_after};
-ghost use Rattle.warehouse_core.specs.Costs.{held_after, tree_after, tree_after_all};
-ghost use Rattle.warehouse_core.specs.Costs.{IsPaid, ArePaid, work_of, work_of_all};
+ghost use Rattle.warehouse_core.specs.Costs.{tree_after, tree_after_all};
+ghost use Rattle.warehouse_core.specs.Work.{held_after};
+ghost use Rattle.warehouse_core.specs.Costs.{IsPaid, ArePaid};
+ghost use Rattle.warehouse_core.specs.Work.{work_of, work_of_all};
 ghost use Rattle.warehouse_core.specs.Inside.{AreHeld, CanHold, CanFollow, StandBy};
 
 use kept_clusters::Clusters;

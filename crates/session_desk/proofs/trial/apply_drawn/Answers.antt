@@ -3,7 +3,7 @@ use Rattle.vec_record.specs.Held.{Rows}
 use Rattle.vec_record.specs.declared.change.Change.{Change}
 use Rattle.event_feed.specs.Meanings.{Slots, meanings, told_all}
 use Rattle.warehouse_core.specs.Batches.{density_by, events_of, rows_after}
-use Rattle.warehouse_core.specs.Costs.{work_of}
+use Rattle.warehouse_core.specs.Work.{work_of}
 use Rattle.session_desk.specs.Trial.{trial_values, draw, drawn_change, last_draw, held_on}
 use Rattle.session_desk.proofs.Trials.{HasDrawn, HasCounted, draws_begin, draws_go_on, draws_end, rows_next, counts_begin, counts_within, counts_go_on, counts_so_far}
 use Rattle.session_desk.proofs.trial.apply_drawn.Goals as goal

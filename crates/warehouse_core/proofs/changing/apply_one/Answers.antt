@@ -8,7 +8,8 @@ use Rattle.page_layout.specs.Heads.{values_of}
 use Rattle.batch_text.specs.Batch.{IsChangeOf, IsSpelledChange}
 use Rattle.delete_case.specs.Deleted.{vector_at}
 use Rattle.warehouse_core.specs.Batches.{density_by}
-use Rattle.warehouse_core.specs.Costs.{held_after, tree_after, IsPaid, work_of}
+use Rattle.warehouse_core.specs.Costs.{tree_after, IsPaid}
+use Rattle.warehouse_core.specs.Work.{held_after, work_of}
 use Rattle.warehouse_core.specs.Inside.{CanFollow}
 use Rattle.warehouse_core.proofs.Alike.{lawful_width, cap_within}
 use Rattle.warehouse_core.proofs.Found.{IsDistance, addable}

@@ -1,6 +1,7 @@
 use Rattle.std.proofs.Common.{◌≤◌, ◌+◌, subst}
 use Rattle.kept_clusters.specs.Kept.{Kept, density_in, Fit, Stand}
-use Rattle.kept_clusters.specs.Paid.{IsDeletionPaid, deletion_work}
+use Rattle.kept_clusters.specs.Paid.{IsDeletionPaid}
+use Rattle.kept_clusters.specs.Work.{deletion_work}
 use Rattle.kept_clusters.proofs.Changing.{deletion_paid, deletion_worked}
 use Rattle.kept_clusters.proofs.clusters.Clusters.delete.Goals as goal
 

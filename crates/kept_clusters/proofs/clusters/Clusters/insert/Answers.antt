@@ -2,7 +2,8 @@ use Rattle.std.proofs.Common.{◌≤◌, ◌+◌, OnOk, subst}
 use Rattle.plain_dbscan.specs.Marks.{density}
 use Rattle.delete_case.specs.Told.{AreCasesTold}
 use Rattle.kept_clusters.specs.Kept.{Kept, density_in, Fit, Stand}
-use Rattle.kept_clusters.specs.Paid.{IsInsertionPaid, insertion_work}
+use Rattle.kept_clusters.specs.Paid.{IsInsertionPaid}
+use Rattle.kept_clusters.specs.Work.{insertion_work}
 use Rattle.kept_clusters.proofs.Told.{inserted_cases}
 use Rattle.kept_clusters.proofs.Changing.{both_ok, insertion_paid, insertion_worked}
 use Rattle.kept_clusters.proofs.clusters.Clusters.insert.Goals as goal

@@ -4,7 +4,8 @@ use Rattle.vec_record.specs.declared.change.Change.{Change}
 use Rattle.plain_dbscan.specs.Marks.{density}
 use Rattle.warehouse_core.specs.declared.refusal.Refusal.{Refusal}
 use Rattle.warehouse_core.specs.Batches.{density_by}
-use Rattle.warehouse_core.specs.Costs.{ArePaid, work_of_all, tree_after_all}
+use Rattle.warehouse_core.specs.Costs.{ArePaid, tree_after_all}
+use Rattle.warehouse_core.specs.Work.{work_of_all}
 use Rattle.warehouse_core.specs.States.{State, held_in}
 use Rattle.warehouse_core.proofs.Moments.{paged, unwritten}
 use Rattle.warehouse_core.proofs.Spent.{never_paid, never_worked}
