@@ -14,7 +14,7 @@ TOP = os.path.join(os.path.dirname(os.path.abspath(__file__)), "..")
 ROOT = "crates/session_desk/src/top.rt"
 LIST = "docs/DEFINITIONS.md"
 HEAD = "## What the headline rests on"
-USE = re.compile(r"^\s*(?:ghost )?use Rattle\.(\w+)\.specs\.([\w.]+?)(?:\.\{|\.?\s*$|\s+as\s|;)", re.M)
+USE = re.compile(r"^\s*(?:ghost |pub )?use Rattle\.(\w+)\.specs\.([\w.]+?)(?:\.\{|\.?\s*$|\s+as\s|;)", re.M)
 
 
 def read(path):
