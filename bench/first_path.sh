@@ -14,78 +14,7 @@ work=$(mktemp -d)
 trap 'rm -rf "$work"' EXIT
 grep -m1 'model name' /proc/cpuinfo | sed 's/.*: /processor: /'
 
-cat >"$work/pairs.c" <<'C'
-// Sizes by all pairs, then the labels of the cores by joining those that are near: METRIC N EPS MINPTS FILE.
-#include <stdint.h>
-#include <stdio.h>
-#include <stdlib.h>
-#include <string.h>
-
-#define INLINE static inline __attribute__((always_inline))
-
-static uint8_t *rows;
-static uint32_t *size, *root;
-
-INLINE int near_bits(const uint8_t *a, const uint8_t *b, size_t width, uint32_t eps) {
-    uint32_t total = 0;
-    for (size_t i = 0; i < width; i += 8) {
-        uint64_t x, y;
-        memcpy(&x, a + i, 8);
-        memcpy(&y, b + i, 8);
-        total += __builtin_popcountll(x ^ y);
-    }
-    return total <= eps;
-}
-
-INLINE int near_sum(const uint8_t *a, const uint8_t *b, size_t width, uint32_t eps) {
-    uint32_t total = 0;
-    for (size_t i = 0; i < width; i += 32) {
-        for (size_t j = 0; j < 32; j++) total += abs((int)a[i + j] - (int)b[i + j]);
-        if (total > eps) return 0;
-    }
-    return 1;
-}
-
-static uint32_t find(uint32_t i) {
-    while (root[i] != i) i = root[i] = root[root[i]];
-    return i;
-}
-
-#define CLUSTER(name, near, width) \
-    __attribute__((noinline)) static void name(uint32_t n, uint32_t eps, uint32_t minpts) { \
-        for (uint32_t i = 0; i < n; i++) { \
-            size[i]++; \
-            root[i] = i; \
-            for (uint32_t j = 0; j < i; j++) \
-                if (near(rows + (size_t)i * width, rows + (size_t)j * width, width, eps)) size[i]++, size[j]++; \
-        } \
-        for (uint32_t i = 0; i < n; i++) \
-            for (uint32_t j = 0; size[i] >= minpts && j < i; j++) \
-                if (size[j] >= minpts && near(rows + (size_t)i * width, rows + (size_t)j * width, width, eps)) { \
-                    uint32_t a = find(i), b = find(j); \
-                    root[a > b ? a : b] = a > b ? b : a; \
-                } \
-    }
-CLUSTER(cluster_bits, near_bits, 8)
-CLUSTER(cluster_sum, near_sum, 128)
-
-int main(int count, char **words) {
-    int bits = words[1][0] == 'h';
-    uint32_t n = atoi(words[2]), eps = atoi(words[3]), minpts = atoi(words[4]), clusters = 0;
-    size_t width = bits ? 8 : 128;
-    rows = malloc(n * width);
-    size = calloc(n, 4);
-    root = malloc(4 * n);
-    FILE *file = fopen(words[5], "rb");
-    if (!file || fread(rows, width, n, file) != n) return 1;
-    if (bits) cluster_bits(n, eps, minpts);
-    else cluster_sum(n, eps, minpts);
-    for (uint32_t i = 0; i < n; i++) clusters += size[i] >= minpts && find(i) == i;
-    printf("clusters %u\n", clusters);
-    return 0;
-}
-C
-clang -O3 -march=native -o "$work/pairs" "$work/pairs.c" 2>/dev/null || echo "without clang: no rival in C"
+. "$(dirname "$0")/pairs.sh"
 
 python3 - "$program" "$work" <<'PY'
 import os, random, resource, subprocess, sys, time
@@ -154,7 +83,7 @@ def wide():
             file.write(b"".join(rows))
         rivals = {"once": ([program, "once", metric, str(dim), str(eps), str(minpts)], path)}
         if os.path.exists(f"{work}/pairs"):
-            rivals["pairs in C"] = ([f"{work}/pairs", metric, str(len(rows)), str(eps), str(minpts), flat], None)
+            rivals["pairs in C"] = ([f"{work}/pairs", metric, str(width), str(len(rows)), str(eps), str(minpts), flat], None)
         if os.environ.get("RIVAL"):
             words = ["scratch", metric, str(dim), str(eps), str(minpts), str(len(rows)), str(width), flat, f"{work}/out"]
             rivals["RIVAL"] = ([os.environ["RIVAL"], *words], None)
