@@ -40,9 +40,9 @@ loop-preserved g c =
     let most : c.apply_change.new.steps ≤ c.loop.steps + work_of (density_by trial_values) (held_on w.rows) (drawn_change count (draw c.loop.x) w.rows) =
     subst (λ (x : Change). c.apply_change.new.steps ≤ c.loop.steps + work_of (density_by trial_values) (held_on w.rows) x) change done.work in (
       draws_go_on seed count before now w c.loop.x left drawn c.requires.count c.apply_change.new.warehouse (meanings g.W.Watcher.says_after c.apply_change.new.feed.slots.items) c.in_ok-drawn.drawn.last done.unsaved last rows
-      (done.told ∙ ap (λ (x : Change). told_all (events_of trial_values w.rows (x ∷ [])) now) change),
+          (done.told ∙ ap (λ (x : Change). told_all (events_of trial_values w.rows (x ∷ [])) now) change),
       counts_go_on seed count c.args.steps.now c.loop.steps w c.loop.x left (subst Q more c.loop.invariant.1) c.apply_change.new.warehouse c.in_ok-drawn.drawn.last c.apply_change.new.steps most last
-      (rows_next seed count before now w c.loop.x left drawn c.requires.count c.apply_change.new.warehouse rows),
+          (rows_next seed count before now w c.loop.x left drawn c.requires.count c.apply_change.new.warehouse rows),
     )
 
 pub returns-clause-told : goal.returns-clause-told
