@@ -1,5 +1,6 @@
 #!/usr/bin/env bash
-# What `once` takes, all told: start, reading, clustering and the report. Wants the built program: make demo.
+# What `once` takes, all told: start, reading, clustering and the report. Wants the built program: make demo; or one
+# that DENSEWH names.
 #   - one-dimensional records, 2,000 and 20,000: time for each of the n * n pairs, and the greatest memory
 #   - 20,000 hashes of 64 bits and 20,000 vectors of 128 bytes, most alone and the rest in groups: processor
 #     time, beside all pairs in plain C (each pair once, -O3 -march=native, wants clang) on vectors that lie in
@@ -8,7 +9,7 @@
 # Of five runs in turn the least counts.
 set -eu
 top=$(cd "$(dirname "$0")/.." && pwd)
-program=$top/crates/densewh/out/densewh
+program=${DENSEWH:-$top/crates/densewh/out/densewh}
 [ -x "$program" ] || { echo "build the program first: make demo"; exit 1; }
 work=$(mktemp -d)
 trap 'rm -rf "$work"' EXIT
