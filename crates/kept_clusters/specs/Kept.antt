@@ -1,10 +1,11 @@
 -- What is kept of the clusters of records, and what it has to do with the records.
-use Rattle.std.specs.Prelude.{◌≡◌, ℕ, List, None, refl}
+use Rattle.std.specs.Prelude.{◌≡◌, ℕ, List, None, option_map, refl}
 use Rattle.std.specs.Coded.{Coded, code_by, coded×, coded_ℕ}
 use Rattle.std.specs.FinMap as map
 use Rattle.vec_record.specs.Held.{Held, Rows}
 use Rattle.plain_dbscan.specs.declared.marks.Mark.{Mark}
 use Rattle.plain_dbscan.specs.Marks.{Density, density, marks_of}
+use Rattle.mtree_node.specs.Preorder.{retagged}
 use Rattle.mtree_index.specs.Plain.{PlainTree, plain_code}
 use Rattle.mtree_index.specs.Tree.{contents}
 use Rattle.count_book.specs.Counted.{Counted, counted_code}
@@ -26,6 +27,12 @@ kept_code =
     (coded× coded_ℕ (coded× plain_code (coded× counted_code (map.code coded_ℕ coded_ℕ))))
     (λ k. (k.eps, (k.tree, (k.counts, k.labels))))
     (λ p. record { eps = p.0; tree = p.1.0; counts = p.1.1.0; labels = p.1.1.1 }) (λ _. refl)
+
+-- What is kept, with these tags of the tree's nodes in preorder.
+abbrev pub with_tags : List ℕ → Kept → Kept
+with_tags tags k = record k {
+  tree = record k.tree { root = option_map (retagged tags k.tree.height) k.tree.root };
+}
 
 -- Nothing is kept, for vectors of this width.
 abbrev pub nothing_kept : ℕ → ℕ → ℕ → Kept

@@ -11,6 +11,7 @@ mod asking;
 mod building;
 mod clusters;
 mod looking;
+mod parts;
 #[cfg(test)]
 mod tests;
 

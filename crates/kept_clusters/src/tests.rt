@@ -4,9 +4,12 @@ ghost use Rattle.std.specs.Prelude.{◌≡◌, ◌≢◌, ◌<◌, None, IsTrue,
 ghost use Rattle.std.specs.FinMap as map;
 ghost use Rattle.kept_clusters.specs.Kept.{Stand};
 
-use crate::{Built, build};
+use crate::{Built, Clusters, build};
 use cluster_report::Summary;
+use count_book::CountBook;
 use int_metric::L1;
+use label_book::LabelBook;
+use mtree_index::MTree;
 use plain_dbscan::Mark::{self, Border, Core};
 use std::alloc::{AllocError, Global};
 use std::marker::Brand;
@@ -126,4 +129,16 @@ fn plays<M: Metric, L: Ledger>(rt: &HostRuntime, blank: Blank) -> Result<bool, A
 fn two_clusters_and_a_border(rt: HostRuntime) -> Result<(), Fail> {
     assert!(rt; plays::<L1, Brand>(&rt, Blank::new(1))?);
     Ok(())
+}
+
+#[test]
+fn parts_of_no_records(rt: HostRuntime) {
+    let alloc = rt.alloc();
+    let counts = CountBook::new(alloc, 2);
+    let labels = LabelBook::new(alloc);
+    let mut none = Clusters::<L1>::from_parts(alloc, 1, MTree::empty(alloc, 1), counts, labels);
+    none.retag(&[]);
+    assert_eq!(rt; none.index().height(), 0);
+    assert!(rt; !none.counts().is_core(1));
+    assert_eq!(rt; none.labels().clusters(), 0);
 }

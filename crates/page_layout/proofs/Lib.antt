@@ -1,7 +1,16 @@
 pub mod Places
+pub mod Runs
 pub mod HeadLaws
 pub mod SlotLaws
 pub mod Begun
 pub mod SlotReads
 pub mod BodyLaws
+pub mod LeafReads
+pub mod LeafLaws
+pub mod LeafWrites
+pub mod LeafPages
+pub mod InnerReads
+pub mod InnerLaws
+pub mod InnerWrites
+pub mod InnerPages
 pub mod PageLaws

@@ -4,6 +4,9 @@ use Rattle.vec_record.specs.Vectors.{AreBytes}
 use Rattle.vec_record.specs.Limits.{are_within, width_of}
 use Rattle.page_layout.specs.Heads.{Values, HeadValue, IsHead, head_of, head_page}
 use Rattle.page_layout.specs.Bodies.{Rows, AreRows, body_of, body_page}
+use Rattle.mtree_node.specs.Preorder.{LeafRow, InnerRow}
+use Rattle.page_layout.specs.Leaves.{AreLeaves, leaves_of, leaf_page}
+use Rattle.page_layout.specs.Inner.{AreInner, inner_of, inner_page}
 
 -- the bytes of a page
 pub record IsPage (page : List ℕ) : Type 0 where
@@ -23,3 +26,18 @@ abbrev pub WrittenArePages : Type 0
 WrittenArePages =
     ((h : HeadValue) → IsHead h → IsPage (head_page h))
     × ((v : Values) (rows : Rows) → IsTrue (are_within v.metric v.dim v.eps v.minpts v.cap) → AreRows v rows → IsPage (body_page (width_of v.metric v.dim) rows))
+
+-- the same of a page of leaves, and of a page with an inner node
+abbrev pub LeavesHaveOneSpelling : Type 0
+LeavesHaveOneSpelling = (page : List ℕ) (leaves : List (List LeafRow)) → IsPage page → (leaves_of page ≡ Ok leaves) ↔ (AreLeaves leaves × (page ≡ leaf_page leaves))
+
+abbrev pub LeavesArePages : Type 0
+LeavesArePages = (leaves : List (List LeafRow)) → AreLeaves leaves → IsPage (leaf_page leaves)
+
+abbrev pub InnerHaveOneSpelling : Type 0
+InnerHaveOneSpelling =
+    (v : Values) (page : List ℕ) (rows : List InnerRow) → IsTrue (are_within v.metric v.dim v.eps v.minpts v.cap) → IsPage page
+    → (inner_of v page ≡ Ok rows) ↔ (AreInner v rows × (page ≡ inner_page (width_of v.metric v.dim) rows))
+
+abbrev pub InnerArePages : Type 0
+InnerArePages = (v : Values) (rows : List InnerRow) → IsTrue (are_within v.metric v.dim v.eps v.minpts v.cap) → AreInner v rows → IsPage (inner_page (width_of v.metric v.dim) rows)

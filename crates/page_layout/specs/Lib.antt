@@ -1,5 +1,7 @@
 pub mod Fields
 pub mod Heads
 pub mod Bodies
+pub mod Leaves
+pub mod Inner
 pub mod Laws
 pub mod Steps

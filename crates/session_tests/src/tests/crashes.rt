@@ -6,10 +6,9 @@ use std::alloc::{AllocError, Global};
 use std::test::Fail;
 use vec_record::{Bytes, Numbers};
 
-const SESSION: &str = "batch\n+,1,0\n+,2,1\n+,3,2\n+,4,3\n+,5,4\nend\nbatch\n-,3\nend\n";
-
-const FIRST_RECEIPT: &str =
-    "ok 1 +5 -0 noise 1 created 1 absorbed 3 merged 0 removed 0 reduced 0 split 0\n";
+/// Two batches, a refused one between them, a watcher that is asked and dropped, and a report.
+const SESSION: &str = "batch\n+,1,0\n+,2,1\n+,3,2\n+,4,3\n+,5,4\nend\nbatch\n+,1,9\nend\n\
+watch 1\ndrop 1\nbatch\n-,3\nend\nreport\n";
 
 /// The report of the store before the session, and after each of its batches.
 const REPORTS: [&str; 3] = [
@@ -63,20 +62,24 @@ fn batches_in(rt: &HostRuntime, image: &[u8]) -> Result<Option<usize>, AllocErro
     )
 }
 
-/// How many whole lines were said.
-fn lines_in(said: &[u8]) -> usize {
-    said.iter().filter(|byte| **byte == b'\n').count()
+/// How many whole receipts were said: lines that begin with these letters, and that end.
+fn receipts_in(said: &[u8]) -> usize {
+    let whole = said.iter().rposition(|byte| *byte == b'\n').unwrap_or(0);
+    said[..whole]
+        .split(|byte| *byte == b'\n')
+        .filter(|line| line.starts_with(b"ok "))
+        .count()
 }
 
 /// Whether each image that a crash may leave now holds as many batches as receipts were said, or
-/// one more.
-fn keeps_batches(rt: &HostRuntime, site: &MemSite) -> Result<bool, AllocError> {
-    let said = lines_in(site.said());
+/// up to so many more.
+fn keeps_batches(rt: &HostRuntime, site: &MemSite, more: usize) -> Result<bool, AllocError> {
+    let said = receipts_in(site.said());
     let mut well = true;
     for pick in 0..4u8 {
         let image = site.crash_image(pick)?;
         let held = batches_in(rt, image.as_slice())?;
-        well = well && held.is_some_and(|held| said <= held && held - said <= 1);
+        well = well && held.is_some_and(|held| said <= held && held - said <= more);
     }
     Ok(well)
 }
@@ -103,7 +106,7 @@ fn bears_well(rt: &HostRuntime, site: &MemSite) -> Result<bool, AllocError> {
 /// How a run over a device ended.
 #[derive(Clone, Copy, Drop)]
 struct End {
-    /// Whether the device broke it off.
+    /// Whether the device or the source broke it off.
     cut: bool,
     /// Whether the status is what it should be, and each image that a crash may leave.
     well: bool,
@@ -111,22 +114,34 @@ struct End {
 
 /// Runs the session over a new store, or the birth of one, over a device.
 fn end_on(rt: &HostRuntime, is_birth: bool, mut site: MemSite) -> Result<End, AllocError> {
-    let words = if is_birth {
-        "init l1 1 1 2 100"
+    let (words, whole) = if is_birth {
+        ("init l1 1 1 2 100", Status::Fine)
     } else {
-        "serve"
+        ("serve", Status::Refused)
     };
     let status = run_on_site(rt, words, SESSION, (4096, 0), &mut site)?;
     let cut = site.faults() > 0;
-    let due = if cut { Status::SiteFault } else { Status::Fine };
+    let due = if cut { Status::SiteFault } else { whole };
     let well = if is_birth {
         bears_well(rt, &site)?
     } else {
-        keeps_batches(rt, &site)?
+        keeps_batches(rt, &site, 1)?
     };
     Ok(End {
         cut,
         well: well && status == due,
+    })
+}
+
+/// Runs the session from a source in pieces, of which a take fails: each image then holds exactly
+/// the batches whose receipts were said.
+fn end_from(rt: &HostRuntime, store: &[u8], cuts: (usize, u32)) -> Result<End, AllocError> {
+    let mut site = device(rt.alloc(), store, 0, None)?;
+    let status = run_on_site(rt, "serve", SESSION, cuts, &mut site)?;
+    let cut = status == Status::SourceFault;
+    Ok(End {
+        cut,
+        well: (cut || status == Status::Refused) && keeps_batches(rt, &site, 0)?,
     })
 }
 
@@ -139,43 +154,41 @@ fn before(rt: &HostRuntime, is_birth: bool) -> Result<Bytes, AllocError> {
     bytes_of(rt.alloc(), store.content())
 }
 
-/// The runs make no more device calls than this.
+/// The runs make no more device calls and no more takes than this.
 const CALLS: u32 = 60;
 
 /// Each call of the device fails in turn, each sync of a commit among them, or the device stops
-/// before it.
+/// before it; behind the last call nothing does.
 #[test]
 fn broken_off(rt: HostRuntime) -> Result<(), Fail> {
-    for is_birth in [false, true] {
+    for (is_birth, cuts) in [(false, 2 * 39), (true, 2 * 35)] {
         let content = before(&rt, is_birth)?;
+        let mut cut = 0u32;
         for call in 0..=CALLS {
             for (fail, stop) in [(call + 1, None), (0, Some(call))] {
                 let site = device(rt.alloc(), content.as_slice(), fail, stop)?;
                 let end = end_on(&rt, is_birth, site)?;
                 assert!(rt; end.well, "birth {is_birth}, call {call}, fails {fail}");
-                assert!(rt; call < CALLS || !end.cut);
+                cut = cut.saturating_add(u32::from(end.cut));
             }
         }
+        assert_eq!(rt; cut, cuts, "birth {is_birth}");
     }
     Ok(())
 }
 
-/// The source fails at its first call, before the end of the first batch, or behind it.
+/// Each take of the source fails in turn, whatever pieces it gives; behind the last nothing does.
 #[test]
 fn failing_sources(rt: HostRuntime) -> Result<(), Fail> {
-    for (piece, call, said) in [
-        (4096usize, 1u32, ""),
-        (6, 7, ""),
-        (6, 8, FIRST_RECEIPT),
-        (40, 2, FIRST_RECEIPT),
-    ] {
-        let mut site = born(&rt)?;
-        let mut device = device(rt.alloc(), site.content(), 0, None)?;
-        let status = run_on_site(&rt, "serve", SESSION, (piece, call), &mut device)?;
-        assert_eq!(rt; status, Status::SourceFault, "piece {piece}");
-        assert_eq!(rt; device.said(), said.as_bytes(), "piece {piece}");
-        let held = batches_in(&rt, device.content())?;
-        assert_eq!(rt; held, Some(lines_in(said.as_bytes())), "piece {piece}");
+    let store = born(&rt)?;
+    for (piece, takes) in [(4096usize, 2), (2, 47), (7, 15)] {
+        let mut cut = 0u32;
+        for call in 1..=CALLS {
+            let end = end_from(&rt, store.content(), (piece, call))?;
+            assert!(rt; end.well, "piece {piece}, take {call}");
+            cut = cut.saturating_add(u32::from(end.cut));
+        }
+        assert_eq!(rt; cut, takes, "piece {piece}");
     }
     Ok(())
 }

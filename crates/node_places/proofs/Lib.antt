@@ -1,0 +1,10 @@
+pub mod Taking
+pub mod Keys
+pub mod Marks
+pub mod References
+pub mod Walks
+pub mod Placed
+pub mod Standing
+pub mod Parted
+pub mod Keeping
+pub mod Returned

@@ -1,0 +1,9 @@
+pub mod Used
+pub mod Walked
+pub mod Once
+pub mod Comes
+pub mod Kept
+pub mod Few
+pub mod Inside
+pub mod Laid
+pub mod Built

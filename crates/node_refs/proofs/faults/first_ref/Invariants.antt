@@ -1,0 +1,8 @@
+use Rattle.std.proofs.Common.{◌≡◌, drop}
+use Rattle.std.specs.List.{AllByRecursion}
+use Rattle.node_refs.specs.Pages.{used_refs, HasSlots}
+use Rattle.node_refs.proofs.Used.{pages_from}
+use Rattle.node_refs.proofs.faults.first_ref.Given as goal
+
+abbrev pub invariant-loop-i : goal.invariant-loop-i
+invariant-loop-i l = (pages_from l.pages l.i ≡ used_refs l.pages) × AllByRecursion HasSlots (drop l.i l.pages)

@@ -1,0 +1,10 @@
+pub mod Numbers
+pub mod Looked
+pub mod Tied
+pub mod Members
+pub mod Listed
+pub mod Led
+pub mod Entered
+pub mod Lawful
+pub mod Form
+pub mod Back

@@ -1,0 +1,2 @@
+-- Definitions that only code and proofs speak of.
+pub mod Steps
