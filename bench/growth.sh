@@ -1,8 +1,11 @@
 #!/bin/sh
 # Time of a deletion from one cluster of 20,000 cores: on a line, which is folded into rows two apart, and in a square.
 # Records go from the end, and from the middle: there a line falls in two each time, and of the square's holes none
-# does. Beside each, in the same run, the same queries by `range` alone, as `replay.sh` says. Wants rt. It works in a
-# temporary folder and leaves nothing behind.
+# does. Beside each, in the same run, the same queries by `range` alone, as `replay.sh` says. With the word `distances`
+# it counts distances in the place of times, in a copy that isn't proved and is slow: there 50 records go in the place of
+# 1,000. YARDSTICKS may name a folder with model.cpp, which isn't part of this repository: it makes the same changes over
+# a tree of its own, and counts the distances of its queries and of what it takes out of the tree. Wants g++ and python3
+# then. Wants rt. It works in a temporary folder and leaves nothing behind.
 set -eu
 . "$(dirname "$0")/change_setup.sh"
 . "$(dirname "$0")/replay.sh"
@@ -88,6 +91,51 @@ fn main(rt: HostRuntime) -> io::Result<()> {
 }
 RATTLE
 
+# What the model counts, for all of the records.
+model_distances() {
+    g++ -O2 -march=x86-64-v2 -w -DGROW=2 -DLABELS=1 -o "$work/model" "$YARDSTICKS/model.cpp"
+    (cd "$work" && python3 - <<'PY'
+import json
+import struct
+import subprocess
+
+
+def point(square, number):
+    if square:
+        return number % 142, number // 142 % 256
+    row, at = divmod(number, 257)
+    along = min(at, 255)
+    return along if row % 2 == 0 else 255 - along, row * 2 + at // 256
+
+
+for square in (False, True):
+    with open("all.bin", "wb") as file:
+        file.write(b"".join(bytes(point(square, number)) for number in range(1, 20001)))
+    for place, gone in (
+        ("end", range(20000, 19000, -1)),
+        ("middle", range(7001, 14001, 7) if square else range(10000, 9800, -10)),
+    ):
+        with open("ops_01.bin", "wb") as file:
+            ops = [len(gone), *(number - 1 for number in gone), 0]
+            file.write(struct.pack(f"<{len(ops)}i", *ops))
+        words = ["./model", "l1", "2", "1", "3" if square else "2", "20000", "2", "all.bin", "1", "ops"]
+        found = json.loads(subprocess.run(words, capture_output=True, check=True).stdout)
+        asked, taken, queries = (
+            found[kind] / len(gone) for kind in ("day_query_distances", "day_tree_distances", "day_queries")
+        )
+        shape = "square" if square else "line"
+        print(f"{shape:>6}, {place:>6}, the model: {asked:.1f} in {queries:.1f} queries, {taken:.1f} in the tree")
+PY
+    )
+}
+
 keeps_fit fill
+if [ "${1:-}" = distances ]; then
+    [ -z "${YARDSTICKS:-}" ] || model_distances
+    sed -i 's/0\.\.1000u32/0..50u32/; s/{ 1000 }/{ 50 }/' "$program/src/main.rt"
+    count_distances
+    awk '{ printf "%6s, %6s: %.1f distances a deletion, %.1f of its queries alone, %.3f of these\n", $1, $2, $3 / $6, $4 / $6, $3 / $4 }' here
+    exit
+fi
 measure
 awk '{ printf "%6s, %6s: %.1f us a deletion, %.2f of its queries alone, %.1f beside the two at the record\n", $1, $2, $3 / $6 / 1000, $3 / $4, $5 / $6 }' here

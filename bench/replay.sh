@@ -256,3 +256,17 @@ RATTLE
 sed -i 's/^use int_metric::{Hamming, L1};/use indexmap::IndexSet;\nuse int_metric::L1;/' "$program/src/main.rt"
 sed -i 's/^change_speed: /&indexmap /' "$work/crates.txt"
 keeps_fit fewer
+
+# Counts distances in the place of nanoseconds, in a copy that isn't proved: each count of a distance is kept in memory
+# too, and the program's clock reads it. The lines are in "$work/here", as those of `measure`.
+count_distances() {
+    sed -i 's/^    share: Share<L>,$/&\n    made: u64,/
+        s/Steps { book, share }/Steps { book, share, made: 0 }/
+        s/^ *self\.book\.add(&mut self\.share, \(.*\));$/&\n        self.made = self.made.wrapping_add(\1);/
+        s|^    /// Counts one distance\.$|    /// The count.\n    pub fn made(\&self) -> u64 {\n        self.made\n    }\n\n&|' \
+        "$work/crates/vec_record/src/steps.rt"
+    sed -i 's/Instant::now(rt)?/steps.made()/; /^use std::time::Instant;$/d
+        s/start\.elapsed(rt)?\.as_nanos()/u128::from(steps.made().wrapping_sub(start))/' "$program/src/main.rt"
+    (cd "$program" && rt try --steps 1 --seconds 3600 >"$work/here" 2>"$work/log") || { cat "$work/log"; exit 1; }
+    cd "$work"
+}

@@ -153,7 +153,7 @@ class Questions(InFolder):
 
     def row(self) -> Store:
         """Five records on a line, the middle one missing: two pairs."""
-        return Store.create(self.folder / "store", "l1", 1, 1, 2, 100)
+        return Store.create(self.folder / "store", "l1", 1, 1, 2, 100, timeout=60)
 
     def test_answers(self) -> None:
         with self.row() as store:
@@ -210,7 +210,7 @@ class Questions(InFolder):
     def test_twenty_batches(self) -> None:
         draw = random.Random(7)
         rows: Dict[int, List[int]] = {}
-        store = Store.create(self.folder / "store", "max", 2, 3, 3, 1000)
+        store = Store.create(self.folder / "store", "max", 2, 3, 3, 1000, timeout=60)
         for turn in range(20):
             changes: List[densewh.Change] = []
             for _ in range(15):
@@ -248,7 +248,7 @@ class Failures(InFolder):
     """A store that isn't there, that another file stands for, and a program that ends."""
 
     def make(self) -> Store:
-        return Store.create(self.folder / "store", "l1", 1, 1, 2, 100)
+        return Store.create(self.folder / "store", "l1", 1, 1, 2, 100, timeout=60)
 
     def test_files(self) -> None:
         with self.assertRaises(densewh.BlankStore), Store(self.folder):
@@ -303,6 +303,9 @@ class Failures(InFolder):
             self.assertEqual(store.summary().records, 0)
 
     def test_interrupt(self) -> None:
+        # A shell has what it runs in the background ignore interrupts.
+        before = signal.signal(signal.SIGINT, signal.default_int_handler)
+        self.addCleanup(signal.signal, signal.SIGINT, before)
         store = self.make()
         with self.assertRaises(KeyboardInterrupt), store:
             store.insert(1, [0])
