@@ -1,51 +1,44 @@
--- Pages of records in the making: the first slots are written, and free ones stand behind them.
-use Rattle.std.proofs.Common.{◌≡◌, ℕ, zero, suc, ◌+◌, ◌-◌, ◌<◌, ◌≤◌, [], ◌∷◌, ◌++◌, length, get_or, take, set, replicate, Option, None, sym, ap, subst, ◌∙◌, append_assoc, arith}
+-- Lists in the making: the first items stand, and free ones behind them.
+use Rattle.std.proofs.Common.{◌≡◌, ℕ, zero, suc, ◌+◌, ◌-◌, ◌<◌, ◌≤◌, List, [], ◌∷◌, ◌++◌, length, get_or, take, set, replicate, sym, ap, ◌∙◌, append_assoc, arith}
 use Rattle.std.specs.List.{AllByRecursion}
-use Rattle.std.proofs.lemmas.List.{append-nil, length-append, length-replicate, length-take-le, take_all, take_more, get_or_at, get_or_default, set_at}
-use Rattle.vec_record.specs.Limits.{width_of}
-use Rattle.page_layout.specs.declared.slot.Slot.{Slot}
-use Rattle.page_layout.specs.Heads.{Values}
-use Rattle.page_layout.specs.Bodies.{Rows, slots_in_page, IsRow, AreRows}
-use Rattle.page_layout.proofs.SlotLaws.{each-take, each-get}
+use Rattle.std.proofs.lemmas.List.{length-append, length-replicate, length-take-le, take_more, get_or_at, set_at}
 
--- the first k slots of rows, and free ones behind them
-abbrev pub begun : ℕ → Rows → ℕ → Rows
-begun n rows k = take k rows ++ replicate (n - k) None
+-- the first k of n items, and free ones behind them
+abbrev pub begun : {A : Type 0} → A → ℕ → List A → ℕ → List A
+begun free n items k = take k items ++ replicate (n - k) free
 
-each-free : (v : Values) (n : ℕ) → AllByRecursion (IsRow v) (replicate n None)
-each-free v zero = tt
-each-free v (suc n) = (tt, each-free v n)
+module _ {A : Type 0} (P : A → Type 0) where
+  each-begun : (k : ℕ) (items : List A) → AllByRecursion P items → AllByRecursion P (take k items)
+  each-begun zero items each = tt
+  each-begun (suc k) [] each = tt
+  each-begun (suc k) (item ∷ items) each = (each.0, each-begun k items each.1)
 
-each-append : (v : Values) (front back : Rows) → AllByRecursion (IsRow v) front → AllByRecursion (IsRow v) back → AllByRecursion (IsRow v) (front ++ back)
-each-append v [] back each more = more
-each-append v (row ∷ front) back each more = (each.0, each-append v front back each.1 more)
+  each-free : (free : A) → P free → (n : ℕ) → AllByRecursion P (replicate n free)
+  each-free free is zero = tt
+  each-free free is (suc n) = (is, each-free free is n)
 
-module _ (v : Values) (rows : Rows) (are : AreRows v rows) (k : ℕ) where
-  pub begun_rows : k ≤ length rows → AreRows v (begun (slots_in_page (width_of v.metric v.dim)) rows k)
-  begun_rows le = record {
-    count = omega (arith, length-append (take k rows) (replicate (slots_in_page (width_of v.metric v.dim) - k) None), length-take-le k rows le, length-replicate {A = Option Slot} (slots_in_page (width_of v.metric v.dim) - k) None, are.count);
-    each = each-append v (take k rows) (replicate (slots_in_page (width_of v.metric v.dim) - k) None) (each-take v k rows are.each) (each-free v (slots_in_page (width_of v.metric v.dim) - k));
-  }
+  each-append : (front back : List A) → AllByRecursion P front → AllByRecursion P back → AllByRecursion P (front ++ back)
+  each-append [] back each more = more
+  each-append (item ∷ front) back each more = (each.0, each-append front back each.1 more)
 
-  module _ (lt : k < length rows) where
-    more_free : begun (slots_in_page (width_of v.metric v.dim)) rows k ≡ take k rows ++ None ∷ replicate (slots_in_page (width_of v.metric v.dim) - (k + 1)) None
+module _ {A : Type 0} (free : A) (n : ℕ) (items : List A) (count : length items ≡ n) (k : ℕ) where
+  pub begun_count : k ≤ length items → length (begun free n items k) ≡ n
+  begun_count le = omega (arith, length-append (take k items) (replicate (n - k) free), length-take-le k items le, length-replicate {A = A} (n - k) free, count)
+
+  pub begun_each : (P : A → Type 0) → P free → AllByRecursion P items → AllByRecursion P (begun free n items k)
+  begun_each P is each = each-append P (take k items) (replicate (n - k) free) (each-begun P k items each) (each-free P free is (n - k))
+
+  module _ (lt : k < length items) where
+    more_free : begun free n items k ≡ take k items ++ free ∷ replicate (n - (k + 1)) free
     more_free =
-        let one : slots_in_page (width_of v.metric v.dim) - k ≡ suc (slots_in_page (width_of v.metric v.dim) - (k + 1)) = omega (arith, are.count, lt) in
-        ap (λ (n : ℕ). take k rows ++ replicate n None) one
+        let one : n - k ≡ suc (n - (k + 1)) = omega (arith, count, lt) in
+        ap (λ (m : ℕ). take k items ++ replicate m free) one
 
-    pub begun_free : get_or (begun (slots_in_page (width_of v.metric v.dim)) rows k) k None ≡ None
-    begun_free = ap (λ (l : Rows). get_or l k None) more_free ∙ get_or_at (take k rows) None (replicate (slots_in_page (width_of v.metric v.dim) - (k + 1)) None) None k (length-take-le k rows (omega (arith, lt)))
+    pub begun_free : get_or (begun free n items k) k free ≡ free
+    begun_free = ap (λ (l : List A). get_or l k free) more_free ∙ get_or_at (take k items) free (replicate (n - (k + 1)) free) free k (length-take-le k items (omega (arith, lt)))
 
-    pub begun_more : (row : Option Slot) → row ≡ get_or rows k row → set (begun (slots_in_page (width_of v.metric v.dim)) rows k) k row ≡ begun (slots_in_page (width_of v.metric v.dim)) rows (k + 1)
-    begun_more row is =
-        let rest : Rows = replicate (slots_in_page (width_of v.metric v.dim) - (k + 1)) None in
-        ap (λ (l : Rows). set l k row) more_free ∙ set_at (take k rows) None rest row k (length-take-le k rows (omega (arith, lt)))
-        ∙ sym (append_assoc (take k rows) (row ∷ []) rest) ∙ ap (λ (r : Option Slot). take k rows ++ r ∷ [] ++ rest) is ∙ ap (λ (l : Rows). l ++ rest) (sym (take_more rows k row lt))
-
-    pub row_lawful : (row : Option Slot) → row ≡ get_or rows k row → IsRow v row
-    row_lawful row is = subst (IsRow v) (sym (is ∙ get_or_default rows k row None lt)) (each-get v k rows are.each)
-
-  pub begun_all : length rows ≤ k → begun (slots_in_page (width_of v.metric v.dim)) rows k ≡ rows
-  begun_all le =
-      let none : slots_in_page (width_of v.metric v.dim) - k ≡ 0 = omega (arith, are.count, le) in
-      ap (λ (n : ℕ). take k rows ++ replicate n None) none ∙ append-nil (take k rows) ∙ take_all k rows le
+    pub begun_more : (item : A) → item ≡ get_or items k item → set (begun free n items k) k item ≡ begun free n items (k + 1)
+    begun_more item is =
+        let rest : List A = replicate (n - (k + 1)) free in
+        ap (λ (l : List A). set l k item) more_free ∙ set_at (take k items) free rest item k (length-take-le k items (omega (arith, lt)))
+        ∙ sym (append_assoc (take k items) (item ∷ []) rest) ∙ ap (λ (i : A). take k items ++ i ∷ [] ++ rest) is ∙ ap (λ (l : List A). l ++ rest) (sym (take_more items k item lt))

@@ -1,249 +1,114 @@
--- A body page has one spelling, and what reading it gives.
-use Rattle.std.proofs.Common.{◌≡◌, ℕ, zero, suc, ◌+◌, ◌-◌, ◌*◌, ◌<◌, ◌≤◌, Bool, true, false, eqb, List, [], ◌∷◌, ◌++◌, length, map, get_or, drop, replicate, Option, Some, None, Ok, Err, refl, sym, ap, subst, ◌∙◌, append_assoc, arith}
-use Rattle.std.specs.List.{AllByRecursion, flat_map, range_with_len}
-use Rattle.std.proofs.lemmas.Bool.{eqb-true, eq-eqb, ne_eqb}
-use Rattle.std.proofs.lemmas.List.{append-nil, drop_all, drop_more}
-use Rattle.std.proofs.lemmas.List.Concat.{flat_map-append}
-use Rattle.std.proofs.lemmas.List.FromFn.{length-map-range_with_len, map-range_with_len_more}
-use Rattle.std.proofs.Math.Nat.{mul-le-mul_left}
-use Rattle.vec_record.specs.Vectors.{AreBytes}
-use Rattle.vec_record.specs.Limits.{width_of}
+-- A body page of any kind has one spelling, and what reading it gives.
+use Rattle.std.proofs.Common.{◌≡◌, inl, inr, ℕ, eqb, cond, Bool, false, List, get_or, Result, Ok, Err, refl, sym, ap, subst, ◌∙◌}
+use Rattle.std.specs.Prelude.{IsTrue}
+use Rattle.std.proofs.lemmas.Bool.{cases_eq, ne_eqb}
+use Rattle.vec_record.specs.Limits.{are_within, width_of}
+use Rattle.mtree_node.specs.Preorder.{LeafRow, InnerRow}
 use Rattle.page_layout.specs.declared.fault.LayoutFault.{LayoutFault}
 use Rattle.page_layout.specs.declared.fault.LayoutFault.TheVariants.{Foreign, Damaged, Memory}
-use Rattle.page_layout.specs.declared.slot.Slot.{Slot}
-use Rattle.page_layout.specs.Fields.{Field, zero_fields, first_bad, unless_bad, IsWhy}
+use Rattle.page_layout.specs.declared.body.Body.{Body}
+use Rattle.page_layout.specs.declared.body.Body.TheVariants.{Slots, Leaves, Inner}
+use Rattle.page_layout.specs.Fields.{IsWhy}
 use Rattle.page_layout.specs.Heads.{Values}
-use Rattle.page_layout.specs.Bodies.{Rows, slots_in_page, slot_at, slot_fields, slots_fields, body_fields, slot_in, rows_in, body_of, IsRow, AreRows, slot_bytes, body_page}
-use Rattle.page_layout.specs.Steps.{slot_of, slots_of}
-use Rattle.page_layout.proofs.Places.{behind, first_lawful, then_lawful, then_bad, append_lawful, append_bad, zeros_then, zeros_are, said_bad, said_ok}
-use Rattle.page_layout.proofs.SlotLaws.{slots_fit, length-row, length-rows}
-use Rattle.page_layout.proofs.SlotReads.{slot_read, slot_again}
+use Rattle.page_layout.specs.Slots.{Rows, rows_of_page, record_page}
+use Rattle.page_layout.specs.Leaves.{leaves_of, leaf_page}
+use Rattle.page_layout.specs.Inner.{inner_of, inner_page}
+use Rattle.page_layout.specs.Bodies.{as_body, body_of, IsBody, body_bytes}
+use Rattle.page_layout.specs.Laws.{IsPage, BodiesHaveOneSpelling}
+use Rattle.page_layout.proofs.RowLaws.{record_from, record_again}
+use Rattle.page_layout.proofs.LeafPages.{leaves_spelled}
+use Rattle.page_layout.proofs.InnerPages.{inner_spelled}
 
--- ---- all slots
+-- ---- a body by its kind
 
-abbrev pub rows_from : ℕ → List ℕ → ℕ → ℕ → Rows
-rows_from width page i n = map (λ k. slot_in width page (slot_at width k)) (range_with_len i n)
+module _ {A : Type 0} (body : A → Body) where
+  as_why : (said : Result A LayoutFault) (e : LayoutFault) → IsWhy said e → IsWhy (as_body body said) e
+  as_why said Memory why = tt
+  as_why said Foreign why = why
+  as_why said (Damaged offset) why = ap (as_body body) why
 
-next_slot : (width i : ℕ) → slot_at width i + (16 + width) ≡ slot_at width (i + 1)
-next_slot width i = omega arith
+  as_ok : (P : Body → Type 0) (said : Result A LayoutFault) (b : Body) → as_body body said ≡ Ok b → ((value : A) → said ≡ Ok value → P (body value)) → P b
+  as_ok P (Ok value) b is each = subst P (cc) (each value refl)
+  as_ok P (Err fault) b is each = absurd cc
 
-slots_rise : (width k n : ℕ) → slot_at width k ≤ slot_at width (k + n)
-slots_rise width k n =
-    let le : k ≤ k + n = omega arith in
-    omega (arith, mul-le-mul_left (16 + width) le)
+  module _ (v : Values) (page : List ℕ) (said : Result A LayoutFault) (kind : body_of v page ≡ as_body body said) where
+    pub kind_why : (e : LayoutFault) → IsWhy said e → IsWhy (body_of v page) e
+    kind_why e why = subst (λ (r : Result Body LayoutFault). IsWhy r e) (sym kind) (as_why said e why)
 
-append_parts : (front back : List Field) → first_bad (front ++ back) ≡ None → (first_bad front ≡ None) × (first_bad back ≡ None)
-append_parts [] back all = (refl, all)
-append_parts ((offset, true) ∷ front) back all = append_parts front back all
-append_parts ((offset, false) ∷ front) back all = absurd cc
+    pub kind_ok : (value : A) → said ≡ Ok value → body_of v page ≡ Ok (body value)
+    kind_ok value is = kind ∙ ap (as_body body) is
 
-rows_read : (v : Values) (page : List ℕ) → AreBytes page → (n i : ℕ) → slot_at (width_of v.metric v.dim) (i + n) ≤ length page → first_bad (slots_fields v page i n) ≡ None
-    → AllByRecursion (IsRow v) (rows_from (width_of v.metric v.dim) page i n)
-    × (drop (slot_at (width_of v.metric v.dim) i) page ≡ flat_map (slot_bytes (width_of v.metric v.dim)) (rows_from (width_of v.metric v.dim) page i n) ++ drop (slot_at (width_of v.metric v.dim) (i + n)) page)
-rows_read v page bytes zero i le lawful =
-    let none : i ≡ i + 0 = omega arith in
-    (tt, ap (λ (k : ℕ). drop (slot_at (width_of v.metric v.dim) k) page) none)
-rows_read v page bytes (suc n) i le lawful =
-    let width : ℕ = width_of v.metric v.dim in
-    let at : ℕ = slot_at width i in
-    let on : i + 1 + n ≡ i + suc n = omega arith in
-    let both = append_parts (slot_fields v page at) (slots_fields v page (i + 1) n) lawful in
-    let end_le : slot_at width (i + 1 + n) ≤ length page = subst (λ (k : ℕ). slot_at width k ≤ length page) (sym on) le in
-    let fits : at + (16 + width) ≤ length page = omega (arith, next_slot width i, end_le, slots_rise width (i + 1) n) in
-    let first = slot_read v page bytes at fits both.0 in
-    let more = rows_read v page bytes n (i + 1) end_le both.1 in
-    let row : Option Slot = slot_in width page at in
-    let rows : Rows = rows_from width page (i + 1) n in (
-      (first.0, more.0),
-      first.1 ∙ ap (λ (k : ℕ). slot_bytes width row ++ drop k page) (next_slot width i) ∙ ap (λ (l : List ℕ). slot_bytes width row ++ l) (more.1 ∙ ap (λ (k : ℕ). flat_map (slot_bytes width) rows ++ drop (slot_at width k) page) on)
-          ∙ sym (append_assoc (slot_bytes width row) (flat_map (slot_bytes width) rows) (drop (slot_at width (i + suc n)) page)),
-    )
-
-rows_again : (v : Values) (page rest : List ℕ) (rows : Rows) (i : ℕ) → AllByRecursion (IsRow v) rows → drop (slot_at (width_of v.metric v.dim) i) page ≡ flat_map (slot_bytes (width_of v.metric v.dim)) rows ++ rest
-    → (first_bad (slots_fields v page i (length rows)) ≡ None) × (rows_from (width_of v.metric v.dim) page i (length rows) ≡ rows)
-rows_again v page rest [] i each holds = (refl, refl)
-rows_again v page rest (row ∷ rows) i each holds =
-    let width : ℕ = width_of v.metric v.dim in
-    let at : ℕ = slot_at width i in
-    let here : drop at page ≡ slot_bytes width row ++ (flat_map (slot_bytes width) rows ++ rest) = holds ∙ append_assoc (slot_bytes width row) (flat_map (slot_bytes width) rows) rest in
-    let first = slot_again v page at row (flat_map (slot_bytes width) rows ++ rest) each.0 here in
-    let next : drop (slot_at width (i + 1)) page ≡ flat_map (slot_bytes width) rows ++ rest =
-    ap (λ (k : ℕ). drop k page) (sym (next_slot width i)) ∙ behind at (16 + width) page (slot_bytes width row) (flat_map (slot_bytes width) rows ++ rest) here (length-row v row each.0) in
-    let more = rows_again v page rest rows (i + 1) each.1 next in (
-      append_lawful (slot_fields v page at) (slots_fields v page (i + 1) (length rows)) first.lawful ∙ more.0,
-      ap (λ (r : Option Slot). r ∷ rows_from width page (i + 1) (length rows)) first.same ∙ ap (λ (l : Rows). row ∷ l) more.1,
-    )
-
--- ---- the whole page
-
-abbrev body_with : Bool → List Field → List Field → List Field → List Field
-body_with kind zeros slots rest = (0, kind) ∷ (zeros ++ (slots ++ rest))
-
-record AreParts (kind : Bool) (zeros slots rest : List Field) : Type 0 where
-  kind_is : kind ≡ true
-  zeros_are : first_bad zeros ≡ None
-  slots_are : first_bad slots ≡ None
-  rest_are : first_bad rest ≡ None
-
-with_parts : (kind : Bool) (zeros slots rest : List Field) → first_bad (body_with kind zeros slots rest) ≡ None → AreParts kind zeros slots rest
-with_parts kind zeros slots rest lawful =
-    let a = first_lawful (0, kind) (zeros ++ (slots ++ rest)) lawful in
-    let b = append_parts zeros (slots ++ rest) a.1 in
-    let c = append_parts slots rest b.1 in
-    record { kind_is = a.0; zeros_are = b.0; slots_are = c.0; rest_are = c.1 }
-
-with_slots : (kind : Bool) (zeros slots rest : List Field) → kind ≡ true → first_bad zeros ≡ None → first_bad (body_with kind zeros slots rest) ≡ first_bad (slots ++ rest)
-with_slots kind zeros slots rest is lawful = then_lawful (0, kind) (zeros ++ (slots ++ rest)) is ∙ append_lawful zeros (slots ++ rest) lawful
+    kind_from : (P : Body → Type 0) (b : Body) → body_of v page ≡ Ok b → ((value : A) → said ≡ Ok value → P (body value)) → P b
+    kind_from P b is each = as_ok P said b (sym kind ∙ is) each
 
 module _ (v : Values) (page : List ℕ) where
-  abbrev kind_test : Bool
-  kind_test = eqb (get_or page 0 0) 1
+  abbrev by_tests : Bool → Bool → Bool → Result Body LayoutFault
+  by_tests one two three =
+      cond one (as_body Slots (rows_of_page v page)) (cond two (as_body Leaves (leaves_of page)) (cond three (as_body Inner (inner_of v page)) (Err (Damaged 0))))
 
-  abbrev front_zeros : List Field
-  front_zeros = zero_fields 1 15 page
+  abbrev by_kind : ℕ → Result Body LayoutFault
+  by_kind kind = by_tests (eqb kind 1) (eqb kind 2) (eqb kind 3)
 
-  abbrev all_slots : List Field
-  all_slots = slots_fields v page 0 (slots_in_page (width_of v.metric v.dim))
-
-  abbrev end_zeros : List Field
-  end_zeros = zero_fields (slot_at (width_of v.metric v.dim) (slots_in_page (width_of v.metric v.dim))) (16384 - slot_at (width_of v.metric v.dim) (slots_in_page (width_of v.metric v.dim))) page
-
-  fields_are : body_fields v page ≡ body_with kind_test front_zeros all_slots end_zeros
-  unfolding body_fields
-  fields_are = refl
-
-  body_says : (bad : Option ℕ) → first_bad (body_with kind_test front_zeros all_slots end_zeros) ≡ bad → body_of v page ≡ unless_bad bad (rows_in (width_of v.metric v.dim) page)
+  body_is : body_of v page ≡ by_kind (get_or page 0 0)
   unfolding body_of
-  body_says bad is = ap (λ (fs : List Field). unless_bad (first_bad fs) (rows_in (width_of v.metric v.dim) page)) fields_are ∙ ap (λ (o : Option ℕ). unless_bad o (rows_in (width_of v.metric v.dim) page)) is
+  body_is = refl
 
-  pub kind_bad : (get_or page 0 0 ≡ 1 → ⊥) → body_of v page ≡ Err (Damaged 0)
-  kind_bad other = body_says (Some 0) (then_bad (0, kind_test) (front_zeros ++ (all_slots ++ end_zeros)) (ne_eqb (get_or page 0 0) 1 other))
+  pub body_slots : get_or page 0 0 ≡ 1 → body_of v page ≡ as_body Slots (rows_of_page v page)
+  body_slots kind = body_is ∙ ap by_kind kind
 
-  module _ (kind : get_or page 0 0 ≡ 1) where
-    is_kind : kind_test ≡ true
-    is_kind = eq-eqb (get_or page 0 0) 1 kind
+  pub body_leaves : get_or page 0 0 ≡ 2 → body_of v page ≡ as_body Leaves (leaves_of page)
+  body_leaves kind = body_is ∙ ap by_kind kind
 
-    pub front_bad : (offset : ℕ) → Some offset ≡ first_bad (zero_fields 1 15 page) → body_of v page ≡ Err (Damaged offset)
-    front_bad offset bad = body_says (Some offset) (then_lawful (0, kind_test) (front_zeros ++ (all_slots ++ end_zeros)) is_kind ∙ append_bad front_zeros (all_slots ++ end_zeros) offset (sym bad))
+  pub body_inner : get_or page 0 0 ≡ 3 → body_of v page ≡ as_body Inner (inner_of v page)
+  body_inner kind = body_is ∙ ap by_kind kind
 
-    module _ (front : first_bad (zero_fields 1 15 page) ≡ None) where
-      slots_bad : (offset : ℕ) → first_bad all_slots ≡ Some offset → body_of v page ≡ Err (Damaged offset)
-      slots_bad offset bad = body_says (Some offset) (with_slots kind_test front_zeros all_slots end_zeros is_kind front ∙ append_bad all_slots end_zeros offset bad)
+  pub body_none : (get_or page 0 0 ≡ 1 → ⊥) → (get_or page 0 0 ≡ 2 → ⊥) → (get_or page 0 0 ≡ 3 → ⊥) → body_of v page ≡ Err (Damaged 0)
+  body_none one two three =
+      let kind : ℕ = get_or page 0 0 in
+      body_is ∙ ap (λ (b : Bool). by_tests b (eqb kind 2) (eqb kind 3)) (ne_eqb kind 1 one) ∙ ap (λ (b : Bool). by_tests false b (eqb kind 3)) (ne_eqb kind 2 two) ∙ ap (by_tests false false) (ne_eqb kind 3 three)
 
-      pub end_said : (end : Option ℕ) → first_bad (slots_fields v page 0 (slots_in_page (width_of v.metric v.dim))) ≡ None
-          → end ≡ first_bad (zero_fields (slot_at (width_of v.metric v.dim) (slots_in_page (width_of v.metric v.dim))) (16384 - slot_at (width_of v.metric v.dim) (slots_in_page (width_of v.metric v.dim))) page)
-          → body_of v page ≡ unless_bad end (rows_in (width_of v.metric v.dim) page)
-      end_said end slots is = body_says end (with_slots kind_test front_zeros all_slots end_zeros is_kind front ∙ append_lawful all_slots end_zeros slots ∙ sym is)
+-- ---- a body has one spelling
 
-      pub slots_why : (e : LayoutFault) → IsWhy (slots_of v page) e → IsWhy (body_of v page) e
-      slots_why Memory why = tt
-      slots_why Foreign why = why
-      slots_why (Damaged offset) why = slots_bad offset (said_bad (first_bad all_slots) (rows_in (width_of v.metric v.dim) page) offset why)
+record_kind : (width : ℕ) (rows : Rows) → get_or (record_page width rows) 0 0 ≡ 1
+unfolding record_page
+record_kind width rows = refl
 
-  page_spelled : AreBytes page → length page ≡ 16384 → AreParts kind_test front_zeros all_slots end_zeros
-      → AreRows v (rows_in (width_of v.metric v.dim) page) × (page ≡ body_page (width_of v.metric v.dim) (rows_in (width_of v.metric v.dim) page))
-  unfolding body_page
-  page_spelled bytes len parts =
-      let width : ℕ = width_of v.metric v.dim in
-      let n : ℕ = slots_in_page width in
-      let rows : Rows = rows_in width page in
-      let tail : List ℕ = replicate (16384 - slot_at width n) 0 in
-      let fits : slot_at width n ≤ 16384 = slots_fit width in
-      let all : 0 + n ≡ n = omega arith in
-      let slots = rows_read v page bytes n 0 (omega (arith, fits, len)) parts.slots_are in
-      let end_is : slot_at width n + (16384 - slot_at width n) ≡ 16384 = omega (arith, fits) in
-      let ended : drop (slot_at width n + (16384 - slot_at width n)) page ≡ [] = drop_all (slot_at width n + (16384 - slot_at width n)) page (omega (arith, end_is, len)) in
-      let end_holds : drop (slot_at width n) page ≡ tail =
-      zeros_then (16384 - slot_at width n) (slot_at width n) page (omega (arith, end_is, len)) parts.rest_are ∙ ap (λ (l : List ℕ). tail ++ l) ended ∙ append-nil tail in
-      let first : slot_at width 0 ≡ 16 = omega arith in
-      let slots_hold : drop 16 page ≡ flat_map (slot_bytes width) rows ++ tail = ap (λ (k : ℕ). drop k page) (sym first) ∙ slots.1 ∙ ap (λ (k : ℕ). flat_map (slot_bytes width) rows ++ drop (slot_at width k) page) all ∙ ap (λ (l : List ℕ). flat_map (slot_bytes width) rows ++ l) end_holds in
-      let front : drop 1 page ≡ replicate 15 0 ++ drop 16 page = zeros_then 15 1 page (omega (arith, len)) parts.zeros_are in
-      let kind : get_or page 0 0 ≡ 1 = eqb-true (get_or page 0 0) 1 parts.kind_is in
-      let whole : page ≡ 1 ∷ drop 1 page = drop_more page 0 0 (omega (arith, len)) ∙ ap (λ (b : ℕ). b ∷ drop 1 page) kind in (
-        record { count = length-map-range_with_len (λ k. slot_in width page (slot_at width k)) 0 n; each = slots.0 },
-        whole ∙ ap (λ (l : List ℕ). 1 ∷ l) (front ∙ ap (λ (l : List ℕ). replicate 15 0 ++ l) slots_hold),
-      )
+leaf_kind : (leaves : List (List LeafRow)) → get_or (leaf_page leaves) 0 0 ≡ 2
+unfolding leaf_page
+leaf_kind leaves = refl
 
-  again_parts : (rows : Rows) → AreRows v rows → page ≡ body_page (width_of v.metric v.dim) rows → AreParts kind_test front_zeros all_slots end_zeros × (rows_in (width_of v.metric v.dim) page ≡ rows)
-  unfolding body_page
-  again_parts rows are same =
-      let width : ℕ = width_of v.metric v.dim in
-      let n : ℕ = slots_in_page width in
-      let tail : List ℕ = replicate (16384 - slot_at width n) 0 in
-      let front : drop 1 page ≡ replicate 15 0 ++ (flat_map (slot_bytes width) rows ++ tail) = ap (drop 1) same in
-      let first : slot_at width 0 ≡ 16 = omega arith in
-      let slots_hold : drop (slot_at width 0) page ≡ flat_map (slot_bytes width) rows ++ tail = ap (λ (k : ℕ). drop k page) first ∙ behind 1 15 page (replicate 15 0) (flat_map (slot_bytes width) rows ++ tail) front refl in
-      let read = rows_again v page tail rows 0 are.each slots_hold in
-      let all : slot_at width 0 + (16 + width) * length rows ≡ slot_at width n = omega (arith, ap (λ (k : ℕ). (16 + width) * k) are.count) in
-      let end_holds : drop (slot_at width n) page ≡ tail ++ [] =
-      ap (λ (k : ℕ). drop k page) (sym all) ∙ behind (slot_at width 0) ((16 + width) * length rows) page (flat_map (slot_bytes width) rows) tail slots_hold (length-rows v rows are.each) ∙ sym (append-nil tail) in (
-        record {
-          kind_is = eq-eqb (get_or page 0 0) 1 (ap (λ (l : List ℕ). get_or l 0 0) same);
-          zeros_are = zeros_are 15 1 page (flat_map (slot_bytes width) rows ++ tail) front;
-          slots_are = ap (λ (k : ℕ). first_bad (slots_fields v page 0 k)) (sym are.count) ∙ read.0;
-          rest_are = zeros_are (16384 - slot_at width n) (slot_at width n) page [] end_holds;
-        },
-        ap (λ (k : ℕ). rows_from width page 0 k) (sym are.count) ∙ read.1,
-      )
+inner_kind : (width : ℕ) (rows : List InnerRow) → get_or (inner_page width rows) 0 0 ≡ 3
+unfolding inner_page
+inner_kind width rows = refl
 
-  -- a page is read as rows exactly where it is their written form
-  pub body_from : (rows : Rows) → AreBytes page → length page ≡ 16384 → body_of v page ≡ Ok rows → AreRows v rows × (page ≡ body_page (width_of v.metric v.dim) rows)
-  body_from rows bytes len is =
-      let parts = said_ok (first_bad (body_with kind_test front_zeros all_slots end_zeros)) (rows_in (width_of v.metric v.dim) page) rows (sym (body_says (first_bad (body_with kind_test front_zeros all_slots end_zeros)) refl) ∙ is) in
-      subst (λ (r : Rows). AreRows v r × (page ≡ body_page (width_of v.metric v.dim) r)) parts.1 (page_spelled bytes len (with_parts kind_test front_zeros all_slots end_zeros parts.0))
+none_said : (said : Result Body LayoutFault) (b : Body) → said ≡ Err (Damaged 0) → said ≡ Ok b → ⊥
+none_said said b bad ok = absurd cc
 
-  pub body_again : (rows : Rows) → AreRows v rows → page ≡ body_page (width_of v.metric v.dim) rows → body_of v page ≡ Ok rows
-  body_again rows are same =
-      let all = again_parts rows are same in
-      let parts = all.0 in
-      body_says None (with_slots kind_test front_zeros all_slots end_zeros parts.kind_is parts.zeros_are ∙ append_lawful all_slots end_zeros parts.slots_are ∙ parts.rest_are) ∙ ap (λ (r : Rows). Ok r) all.1
+module _ (v : Values) (within : IsTrue (are_within v.metric v.dim v.eps v.minpts v.cap)) (page : List ℕ) (is : IsPage page) where
+  abbrev IsSpelled : Body → Type 0
+  IsSpelled b = IsBody v b × (page ≡ body_bytes v b)
 
--- the slots one by one
-module _ (v : Values) (page : List ℕ) where
-  abbrev pub IsSoFar : ℕ → Rows → Type 0
-  IsSoFar k rows = (first_bad (slots_fields v page 0 k) ≡ None) × (rows ≡ rows_from (width_of v.metric v.dim) page 0 k)
+  spelled : (b : Body) → body_of v page ≡ Ok b → IsSpelled b
+  spelled b said =
+      elim (cases_eq (get_or page 0 0) 1) [
+        | inl kind ↦ kind_from Slots v page (rows_of_page v page) (body_slots v page kind) IsSpelled b said (λ rows ok. record_from v page rows is.bytes is.len ok)
+        | inr one ↦ elim (cases_eq (get_or page 0 0) 2) [
+          | inl kind ↦ kind_from Leaves v page (leaves_of page) (body_leaves v page kind) IsSpelled b said (λ leaves ok. (leaves_spelled page leaves is).0 ok)
+          | inr two ↦ elim (cases_eq (get_or page 0 0) 3) [
+            | inl kind ↦ kind_from Inner v page (inner_of v page) (body_inner v page kind) IsSpelled b said (λ rows ok. (inner_spelled v page rows within is).0 ok)
+            | inr three ↦ absurd (none_said (body_of v page) b (body_none v page one two three) said)
+          ]
+        ]
+      ]
 
-  range_split : (a b i : ℕ) → range_with_len i (a + b) ≡ range_with_len i a ++ range_with_len (i + a) b
-  range_split zero b i =
-      let same : i ≡ i + 0 = omega arith in
-      let none : 0 + b ≡ b = omega arith in
-      ap (range_with_len i) none ∙ ap (λ (k : ℕ). range_with_len k b) same
-  range_split (suc a) b i =
-      let one : suc a + b ≡ suc (a + b) = omega arith in
-      let on : i + 1 + a ≡ i + suc a = omega arith in
-      ap (range_with_len i) one ∙ ap (λ (l : List ℕ). i ∷ l) (range_split a b (i + 1)) ∙ ap (λ (k : ℕ). i ∷ (range_with_len (i + 1) a ++ range_with_len k b)) on
+  -- the first byte of a page that is this one
+  kind_of : (other : List ℕ) (k : ℕ) → page ≡ other → get_or other 0 0 ≡ k → get_or page 0 0 ≡ k
+  kind_of other k same is_kind = ap (λ (l : List ℕ). get_or l 0 0) same ∙ is_kind
 
-  fields_split : (a b : ℕ) → slots_fields v page 0 (a + b) ≡ slots_fields v page 0 a ++ slots_fields v page a b
-  fields_split a b =
-      let f : ℕ → List Field = λ k. slot_fields v page (slot_at (width_of v.metric v.dim) k) in
-      let start : 0 + a ≡ a = omega arith in
-      ap (flat_map f) (range_split a b 0) ∙ flat_map-append f (range_with_len 0 a) (range_with_len (0 + a) b) ∙ ap (λ (k : ℕ). slots_fields v page 0 a ++ slots_fields v page k b) start
+  again : (b : Body) → IsSpelled b → body_of v page ≡ Ok b
+  again (Slots rows) (are, same) = kind_ok Slots v page (rows_of_page v page) (body_slots v page (kind_of _ 1 same (record_kind (width_of v.metric v.dim) rows))) rows (record_again v page rows are same)
+  again (Leaves leaves) (are, same) = kind_ok Leaves v page (leaves_of page) (body_leaves v page (kind_of _ 2 same (leaf_kind leaves))) leaves ((leaves_spelled page leaves is).1 (are, same))
+  again (Inner rows) (are, same) = kind_ok Inner v page (inner_of v page) (body_inner v page (kind_of _ 3 same (inner_kind (width_of v.metric v.dim) rows))) rows ((inner_spelled v page rows within is).1 (are, same))
 
-  pub one_more : (k : ℕ) (rows : Rows) (row : Option Slot) → IsSoFar k rows → slot_of v page (slot_at (width_of v.metric v.dim) k) ≡ Ok row → IsSoFar (k + 1) (rows ++ row ∷ [])
-  one_more k rows row so_far is =
-      let width : ℕ = width_of v.metric v.dim in
-      let parts = said_ok (first_bad (slot_fields v page (slot_at width k))) (slot_in width page (slot_at width k)) row is in (
-        ap first_bad (fields_split k 1) ∙ append_lawful (slots_fields v page 0 k) (slots_fields v page k 1) so_far.0 ∙ append_lawful (slot_fields v page (slot_at width k)) [] parts.0,
-        ap (λ (r : Option Slot). rows ++ r ∷ []) (sym parts.1) ∙ ap (λ (l : Rows). l ++ slot_in width page (slot_at width k) ∷ []) so_far.1
-            ∙ sym (map-range_with_len_more (λ j. slot_in width page (slot_at width j)) 0 k k (omega arith)),
-      )
-
-  pub one_bad : (k : ℕ) (rows : Rows) (e : LayoutFault) → IsSoFar k rows → k < slots_in_page (width_of v.metric v.dim) → IsWhy (slot_of v page (slot_at (width_of v.metric v.dim) k)) e → IsWhy (slots_of v page) e
-  one_bad k rows Memory so_far lt why = tt
-  one_bad k rows Foreign so_far lt why = why
-  one_bad k rows (Damaged offset) so_far lt why =
-      let width : ℕ = width_of v.metric v.dim in
-      let n : ℕ = slots_in_page width in
-      let here : first_bad (slot_fields v page (slot_at width k)) ≡ Some offset = said_bad (first_bad (slot_fields v page (slot_at width k))) (slot_in width page (slot_at width k)) offset why in
-      let rest : n ≡ k + suc (n - (k + 1)) = omega (arith, lt) in
-      let bad : first_bad (slots_fields v page 0 n) ≡ Some offset =
-      ap (λ (m : ℕ). first_bad (slots_fields v page 0 m)) rest ∙ ap first_bad (fields_split k (suc (n - (k + 1)))) ∙ append_lawful (slots_fields v page 0 k) (slots_fields v page k (suc (n - (k + 1)))) so_far.0
-      ∙ append_bad (slot_fields v page (slot_at width k)) (slots_fields v page (k + 1) (n - (k + 1))) offset here in
-      ap (λ (o : Option ℕ). unless_bad o (rows_in width page)) bad
-
-  pub all_said : (k : ℕ) (rows : Rows) → IsSoFar k rows → k ≡ slots_in_page (width_of v.metric v.dim) → slots_of v page ≡ Ok rows
-  all_said k rows so_far is =
-      let width : ℕ = width_of v.metric v.dim in
-      let lawful : first_bad (slots_fields v page 0 (slots_in_page width)) ≡ None = ap (λ (m : ℕ). first_bad (slots_fields v page 0 m)) (sym is) ∙ so_far.0 in
-      let rows_are : rows_in width page ≡ rows = ap (rows_from width page 0) (sym is) ∙ sym so_far.1 in
-      ap (λ (o : Option ℕ). unless_bad o (rows_in width page)) lawful ∙ ap (λ (r : Rows). Ok r) rows_are
+pub bodies_spelled : BodiesHaveOneSpelling
+bodies_spelled = λ v page body within is. (λ said. spelled v within page is body said, λ both. again v within page is body both)

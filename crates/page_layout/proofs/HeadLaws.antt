@@ -2,7 +2,7 @@
 use Rattle.std.proofs.Common.{◌≡◌, inl, inr, ℕ, ◌+◌, ◌^◌, ◌<◌, ◌≤◌, Bool, true, false, leb, eqb, cond, List, [], ◌∷◌, ◌++◌, length, take, drop, replicate, Option, Some, None, Result, Ok, Err, refl, sym, ap, subst, ◌∙◌, arith}
 use Rattle.std.specs.Prelude.{IsTrue}
 use Rattle.std.specs.List.{flat_map}
-use Rattle.std.proofs.lemmas.Bool.{cases_lt, leb-true, le-leb, eqb-true, eq-eqb, ne_eqb, and_parts, and_from}
+use Rattle.std.proofs.lemmas.Bool.{cases_lt, cases_Bool, leb-true, le-leb, eqb-true, eq-eqb, ne_eqb, and_parts, and_from}
 use Rattle.std.proofs.lemmas.List.{drop_all, append-nil, drop-replicate}
 use Rattle.vec_record.specs.declared.kind.MetricKind.{MetricKind}
 use Rattle.vec_record.specs.declared.kind.MetricKind.TheVariants.{L1, Max, Hamming}
@@ -12,7 +12,7 @@ use Rattle.page_gate.specs.Gate.{number_4}
 use Rattle.page_layout.specs.declared.fault.LayoutFault.{LayoutFault}
 use Rattle.page_layout.specs.declared.fault.LayoutFault.TheVariants.{Foreign, Damaged}
 use Rattle.page_layout.specs.Fields.{Field, word, zero_fields, first_bad, unless_bad}
-use Rattle.page_layout.specs.Heads.{Values, HeadValue, IsHead, metric_number, metric_of, dim_limit, head_fields, values_in, head_in, head_of, head_page}
+use Rattle.page_layout.specs.Heads.{Values, HeadValue, IsHead, metric_number, metric_of, dim_limit, is_root, is_height, head_fields, values_in, head_in, head_of, head_page}
 use Rattle.page_layout.proofs.Places.{number_small, word_then, number_is, first_lawful, append_bad, append_lawful, zeros_then, zeros_are}
 
 between : (low high n : ℕ) → is_between low high n ≡ true → (low ≤ n) × (n ≤ high)
@@ -30,8 +30,8 @@ pub record AreLawful (page : List ℕ) : Type 0 where
   pub minpts : is_between 1 65535 (number_4 20 page) ≡ true
   pub cap : is_between 1 200000 (number_4 24 page) ≡ true
   pub count : leb (number_4 32 page) (number_4 24 page) ≡ true
-  pub root : eqb (number_4 36 page) 0 ≡ true
-  pub height : eqb (number_4 40 page) 0 ≡ true
+  pub root : is_root (number_4 32 page) (number_4 36 page) ≡ true
+  pub height : is_height (number_4 32 page) (number_4 40 page) ≡ true
   pub zeros : first_bad (zero_fields 44 16340 page) ≡ None
 
 -- nine fields and others behind them
@@ -69,7 +69,7 @@ nine_from a b c d e f g h i rest are = rw (are.first, are.second, are.third, are
 abbrev pub fields_with : List ℕ → List Field → List Field
 fields_with page rest =
     nine (leb 2 (number_4 0 page)) (is_between 1 3 (number_4 8 page)) (is_between 1 (dim_limit (number_4 8 page)) (number_4 12 page)) (is_between 0 65535 (number_4 16 page))
-    (is_between 1 65535 (number_4 20 page)) (is_between 1 200000 (number_4 24 page)) (leb (number_4 32 page) (number_4 24 page)) (eqb (number_4 36 page) 0) (eqb (number_4 40 page) 0) rest
+    (is_between 1 65535 (number_4 20 page)) (is_between 1 200000 (number_4 24 page)) (leb (number_4 32 page) (number_4 24 page)) (is_root (number_4 32 page) (number_4 36 page)) (is_height (number_4 32 page) (number_4 40 page)) rest
 
 fields_are : (page : List ℕ) → head_fields page ≡ fields_with page (zero_fields 44 16340 page)
 unfolding head_fields
@@ -77,10 +77,10 @@ fields_are page = refl
 
 lawful_with : (page : List ℕ) (rest : List Field) → first_bad (fields_with page rest) ≡ None
     → AreNine (leb 2 (number_4 0 page)) (is_between 1 3 (number_4 8 page)) (is_between 1 (dim_limit (number_4 8 page)) (number_4 12 page)) (is_between 0 65535 (number_4 16 page))
-    (is_between 1 65535 (number_4 20 page)) (is_between 1 200000 (number_4 24 page)) (leb (number_4 32 page) (number_4 24 page)) (eqb (number_4 36 page) 0) (eqb (number_4 40 page) 0) rest
+    (is_between 1 65535 (number_4 20 page)) (is_between 1 200000 (number_4 24 page)) (leb (number_4 32 page) (number_4 24 page)) (is_root (number_4 32 page) (number_4 36 page)) (is_height (number_4 32 page) (number_4 40 page)) rest
 lawful_with page rest lawful =
     nine_parts (leb 2 (number_4 0 page)) (is_between 1 3 (number_4 8 page)) (is_between 1 (dim_limit (number_4 8 page)) (number_4 12 page)) (is_between 0 65535 (number_4 16 page))
-    (is_between 1 65535 (number_4 20 page)) (is_between 1 200000 (number_4 24 page)) (leb (number_4 32 page) (number_4 24 page)) (eqb (number_4 36 page) 0) (eqb (number_4 40 page) 0) rest lawful
+    (is_between 1 65535 (number_4 20 page)) (is_between 1 200000 (number_4 24 page)) (leb (number_4 32 page) (number_4 24 page)) (is_root (number_4 32 page) (number_4 36 page)) (is_height (number_4 32 page) (number_4 40 page)) rest lawful
 
 pub lawful_fields : (page : List ℕ) → first_bad (head_fields page) ≡ None → AreLawful page
 lawful_fields page lawful =
@@ -90,7 +90,7 @@ lawful_fields page lawful =
 lawful_by : (page : List ℕ) (rest : List Field) → AreLawful page → first_bad rest ≡ None → first_bad (fields_with page rest) ≡ None
 lawful_by page rest are others =
     nine_from (leb 2 (number_4 0 page)) (is_between 1 3 (number_4 8 page)) (is_between 1 (dim_limit (number_4 8 page)) (number_4 12 page)) (is_between 0 65535 (number_4 16 page))
-    (is_between 1 65535 (number_4 20 page)) (is_between 1 200000 (number_4 24 page)) (leb (number_4 32 page) (number_4 24 page)) (eqb (number_4 36 page) 0) (eqb (number_4 40 page) 0) rest
+    (is_between 1 65535 (number_4 20 page)) (is_between 1 200000 (number_4 24 page)) (leb (number_4 32 page) (number_4 24 page)) (is_root (number_4 32 page) (number_4 36 page)) (is_height (number_4 32 page) (number_4 40 page)) rest
     (record { first = are.pages; second = are.metric; third = are.dim; fourth = are.eps; fifth = are.minpts; sixth = are.cap; seventh = are.count; eighth = are.root; ninth = are.height; others = others })
 
 pub fields_lawful : (page : List ℕ) → AreLawful page → first_bad (head_fields page) ≡ None
@@ -139,7 +139,7 @@ module _ (page : List ℕ) (are : AreLawful page) where
   pub params_within : (m : MetricKind) (n d e p c : ℕ) → m ≡ metric_of n → n ≡ number_4 8 page → d ≡ number_4 12 page → e ≡ number_4 16 page → p ≡ number_4 20 page → c ≡ number_4 24 page → IsTrue (are_within m d e p c)
   params_within m n d e p c m_is n_is d_is e_is p_is c_is = rw (m_is, n_is, d_is, e_is, p_is, c_is) fields_within
 
-  lawful_is : AreBytes page → number_4 4 page ≡ 0 → IsHead (head_in page)
+  lawful_is : AreBytes page → number_4 4 page ≡ 1 → IsHead (head_in page)
   unfolding head_in values_in
   lawful_is bytes version = record {
     version = version;
@@ -148,8 +148,9 @@ module _ (page : List ℕ) (are : AreLawful page) where
     values = fields_within;
     batches = number_small 28 page bytes;
     count = leb-true (number_4 32 page) (number_4 24 page) are.count;
-    root = eqb-true (number_4 36 page) 0 are.root;
-    height = eqb-true (number_4 40 page) 0 are.height;
+    root = are.root;
+    root_fits = number_small 36 page bytes;
+    height = are.height;
   }
 
   lawful_spelled : length page ≡ 16384 → AreBytes page → page ≡ head_page (head_in page)
@@ -172,7 +173,7 @@ module _ (page : List ℕ) (are : AreLawful page) where
       let pages = at 0 4 _ refl (omega arith) version in
       rw (number_of (number_4 8 page) are.metric) pages
 
-  pub head_read : length page ≡ 16384 → AreBytes page → number_4 4 page ≡ 0 → IsHead (head_in page) × (page ≡ head_page (head_in page))
+  pub head_read : length page ≡ 16384 → AreBytes page → number_4 4 page ≡ 1 → IsHead (head_in page) × (page ≡ head_page (head_in page))
   head_read len bytes version = (lawful_is bytes version, lawful_spelled len bytes)
 
 -- ---- what is written
@@ -203,6 +204,18 @@ dim_small : (m : MetricKind) (d : ℕ) → d ≤ greatest_dim m → d < 2 ^ 32
 dim_small L1 d le = omega (arith, le)
 dim_small Max d le = omega (arith, le)
 dim_small Hamming d le = omega (arith, le)
+
+-- a height is at most 6
+pub height_most : (count height : ℕ) → is_height count height ≡ true → height ≤ 6
+height_most count height is =
+    let all = λ (b : Bool). cond b (eqb height 0) (is_between 1 6 height) in
+    elim (cases_Bool (eqb count 0)) [
+      | inl yes_is ↦ let none : height ≡ 0 = eqb-true height 0 (ap all (sym yes_is) ∙ is) in omega (arith, none)
+      | inr no_is ↦ (between 1 6 height (ap all (sym no_is) ∙ is)).1
+    ]
+
+height_small : (count height : ℕ) → is_height count height ≡ true → height < 2 ^ 32
+height_small count height is = omega (arith, height_most count height is)
 
 record AreSmall (v : Values) : Type 0 where
   dim : is_between 1 (greatest_dim v.metric) v.dim ≡ true
@@ -252,7 +265,7 @@ numbers_are page a b c d e f g h i j k rest is sa sb sc sd se sf sg sh si sj sk 
   ap (drop 44) is,
 )
 
-again_lawful : (h : HeadValue) (page : List ℕ) → IsHead h → page ≡ head_page h → AreLawful page × ((number_4 4 page ≡ 0) × (head_in page ≡ h))
+again_lawful : (h : HeadValue) (page : List ℕ) → IsHead h → page ≡ head_page h → AreLawful page × ((number_4 4 page ≡ 1) × (head_in page ≡ h))
 unfolding head_page head_in values_in
 again_lawful h page is same =
     let v = values_parts h.values is.values in
@@ -262,7 +275,7 @@ again_lawful h page is same =
     let c = between 1 200000 h.values.cap v.cap in
     let both = numbers_are page h.pages h.version (metric_number h.values.metric) h.values.dim h.values.eps h.values.minpts h.values.cap h.batches h.count h.root h.height (replicate 16340 0) same
     is.pages_fit (omega (arith, is.version)) (metric_small h.values.metric) (dim_small h.values.metric h.values.dim d.1) (omega (arith, e.1)) (omega (arith, p.1)) (omega (arith, c.1)) is.batches
-    (omega (arith, is.count, c.1)) (omega (arith, is.root)) (omega (arith, is.height)) in
+    (omega (arith, is.count, c.1)) is.root_fits (height_small h.count h.height is.height) in
     let n = both.0 in (
       record {
         pages = ap (leb 2) n.n0 ∙ le-leb 2 h.pages is.pages;
@@ -272,8 +285,8 @@ again_lawful h page is same =
         minpts = ap (is_between 1 65535) n.n20 ∙ v.minpts;
         cap = ap (is_between 1 200000) n.n24 ∙ v.cap;
         count = ap (leb (number_4 32 page)) n.n24 ∙ ap (λ (k : ℕ). leb k h.values.cap) n.n32 ∙ le-leb h.count h.values.cap is.count;
-        root = eq-eqb (number_4 36 page) 0 (n.n36 ∙ is.root);
-        height = eq-eqb (number_4 40 page) 0 (n.n40 ∙ is.height);
+        root = ap (λ (k : ℕ). is_root k (number_4 36 page)) n.n32 ∙ ap (is_root h.count) n.n36 ∙ is.root;
+        height = ap (λ (k : ℕ). is_height k (number_4 40 page)) n.n32 ∙ ap (is_height h.count) n.n40 ∙ is.height;
         zeros = zeros_are 16340 44 page [] (both.1 ∙ sym (append-nil (replicate 16340 0)));
       },
       (n.n4 ∙ is.version, rw (n.n0, n.n4, n.n8, n.n12, n.n16, n.n20, n.n24, n.n28, n.n32, n.n36, n.n40, metric_again h.values.metric) refl),
@@ -284,20 +297,20 @@ again_lawful h page is same =
 abbrev said : Bool → Option ℕ → HeadValue → Result HeadValue LayoutFault
 said known bad value = cond known (unless_bad bad value) (Err Foreign)
 
-head_of_is : (page : List ℕ) → head_of page ≡ said (eqb (number_4 4 page) 0) (first_bad (head_fields page)) (head_in page)
+head_of_is : (page : List ℕ) → head_of page ≡ said (eqb (number_4 4 page) 1) (first_bad (head_fields page)) (head_in page)
 unfolding head_of
 head_of_is page = refl
 
-pub head_foreign : (page : List ℕ) → (number_4 4 page ≡ 0 → ⊥) → head_of page ≡ Err Foreign
-head_foreign page other = head_of_is page ∙ ap (λ (b : Bool). said b (first_bad (head_fields page)) (head_in page)) (ne_eqb (number_4 4 page) 0 other)
+pub head_foreign : (page : List ℕ) → (number_4 4 page ≡ 1 → ⊥) → head_of page ≡ Err Foreign
+head_foreign page other = head_of_is page ∙ ap (λ (b : Bool). said b (first_bad (head_fields page)) (head_in page)) (ne_eqb (number_4 4 page) 1 other)
 
-pub head_damaged : (page : List ℕ) (offset : ℕ) → number_4 4 page ≡ 0 → Some offset ≡ first_bad (head_fields page) → head_of page ≡ Err (Damaged offset)
+pub head_damaged : (page : List ℕ) (offset : ℕ) → number_4 4 page ≡ 1 → Some offset ≡ first_bad (head_fields page) → head_of page ≡ Err (Damaged offset)
 head_damaged page offset known bad =
-    head_of_is page ∙ ap (λ (b : Bool). said b (first_bad (head_fields page)) (head_in page)) (eq-eqb (number_4 4 page) 0 known) ∙ ap (λ (o : Option ℕ). said true o (head_in page)) (sym bad)
+    head_of_is page ∙ ap (λ (b : Bool). said b (first_bad (head_fields page)) (head_in page)) (eq-eqb (number_4 4 page) 1 known) ∙ ap (λ (o : Option ℕ). said true o (head_in page)) (sym bad)
 
-pub head_lawful : (page : List ℕ) → number_4 4 page ≡ 0 → first_bad (head_fields page) ≡ None → head_of page ≡ Ok (head_in page)
+pub head_lawful : (page : List ℕ) → number_4 4 page ≡ 1 → first_bad (head_fields page) ≡ None → head_of page ≡ Ok (head_in page)
 head_lawful page known lawful =
-    head_of_is page ∙ ap (λ (b : Bool). said b (first_bad (head_fields page)) (head_in page)) (eq-eqb (number_4 4 page) 0 known) ∙ ap (λ (o : Option ℕ). said true o (head_in page)) lawful
+    head_of_is page ∙ ap (λ (b : Bool). said b (first_bad (head_fields page)) (head_in page)) (eq-eqb (number_4 4 page) 1 known) ∙ ap (λ (o : Option ℕ). said true o (head_in page)) lawful
 
 said_ok : (known : Bool) (bad : Option ℕ) (value h : HeadValue) → said known bad value ≡ Ok h → (known ≡ true) × ((bad ≡ None) × (value ≡ h))
 said_ok true None value h is = (refl, (refl, cc))
@@ -307,8 +320,8 @@ said_ok false bad value h is = absurd cc
 -- a page is read as a value exactly where it is its written form
 pub head_from : (page : List ℕ) (h : HeadValue) → length page ≡ 16384 → AreBytes page → head_of page ≡ Ok h → IsHead h × (page ≡ head_page h)
 head_from page h len bytes is =
-    let parts = said_ok (eqb (number_4 4 page) 0) (first_bad (head_fields page)) (head_in page) h (sym (head_of_is page) ∙ is) in
-    subst (λ (v : HeadValue). IsHead v × (page ≡ head_page v)) parts.1.1 (head_read page (lawful_fields page parts.1.0) len bytes (eqb-true (number_4 4 page) 0 parts.0))
+    let parts = said_ok (eqb (number_4 4 page) 1) (first_bad (head_fields page)) (head_in page) h (sym (head_of_is page) ∙ is) in
+    subst (λ (v : HeadValue). IsHead v × (page ≡ head_page v)) parts.1.1 (head_read page (lawful_fields page parts.1.0) len bytes (eqb-true (number_4 4 page) 1 parts.0))
 
 pub head_again : (page : List ℕ) (h : HeadValue) → IsHead h → page ≡ head_page h → head_of page ≡ Ok h
 head_again page h is same =

@@ -4,6 +4,7 @@ pub mod HeadLaws
 pub mod SlotLaws
 pub mod Begun
 pub mod SlotReads
+pub mod RowLaws
 pub mod BodyLaws
 pub mod LeafReads
 pub mod LeafLaws
@@ -14,3 +15,4 @@ pub mod InnerLaws
 pub mod InnerWrites
 pub mod InnerPages
 pub mod PageLaws
+pub mod Facts

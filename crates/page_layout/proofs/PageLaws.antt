@@ -1,17 +1,23 @@
 -- What is written is a page, and a page has one spelling.
 use Rattle.std.proofs.Common.{◌≡◌, ℕ, zero, suc, ◌+◌, ◌-◌, ◌*◌, List, [], ◌∷◌, ◌++◌, length, replicate, Option, Some, None, ap, ◌∙◌, arith}
+use Rattle.std.specs.Prelude.{IsTrue}
 use Rattle.std.specs.List.{AllByRecursion, flat_map}
 use Rattle.std.proofs.lemmas.List.{length-append, length-replicate}
 use Rattle.vec_record.specs.Vectors.{AreBytes}
-use Rattle.vec_record.specs.Limits.{width_of}
+use Rattle.vec_record.specs.Limits.{are_within, width_of}
 use Rattle.page_layout.specs.declared.slot.Slot.{Slot}
 use Rattle.page_layout.specs.Fields.{word}
 use Rattle.page_layout.specs.Heads.{Values, HeadValue, metric_number, head_page}
-use Rattle.page_layout.specs.Bodies.{Rows, slots_in_page, slot_at, IsRow, AreRows, slot_bytes, body_page}
-use Rattle.page_layout.specs.Laws.{IsPage, HeadsHaveOneSpelling, BodiesHaveOneSpelling, WrittenArePages}
+use Rattle.page_layout.specs.Slots.{Rows, slots_in_page, slot_at, IsRow, AreRows, slot_bytes, record_page}
+use Rattle.page_layout.specs.declared.body.Body.{Body}
+use Rattle.page_layout.specs.declared.body.Body.TheVariants.{Slots, Leaves, Inner}
+use Rattle.page_layout.specs.Bodies.{IsBody, body_bytes}
+use Rattle.page_layout.specs.Laws.{IsPage, HeadsHaveOneSpelling, RowsHaveOneSpelling, WrittenArePages}
 use Rattle.page_layout.proofs.HeadLaws.{head_from, head_again}
 use Rattle.page_layout.proofs.SlotLaws.{slots_fit, length-rows}
-use Rattle.page_layout.proofs.BodyLaws.{body_from, body_again}
+use Rattle.page_layout.proofs.RowLaws.{record_from, record_again}
+use Rattle.page_layout.proofs.LeafPages.{leaf_pages}
+use Rattle.page_layout.proofs.InnerPages.{inner_pages}
 
 bytes-append : (front back : List ℕ) → AreBytes front → AreBytes back → AreBytes (front ++ back)
 bytes-append [] back are more = more
@@ -55,9 +61,9 @@ bytes-rows : (v : Values) (rows : Rows) → AllByRecursion (IsRow v) rows → Ar
 bytes-rows v [] each = tt
 bytes-rows v (row ∷ rows) each = bytes-append (slot_bytes (width_of v.metric v.dim) row) (flat_map (slot_bytes (width_of v.metric v.dim)) rows) (bytes-row v row each.0) (bytes-rows v rows each.1)
 
-body_is_page : (v : Values) (rows : Rows) → AreRows v rows → IsPage (body_page (width_of v.metric v.dim) rows)
-unfolding body_page
-body_is_page v rows are =
+record_is_page : (v : Values) (rows : Rows) → AreRows v rows → IsPage (record_page (width_of v.metric v.dim) rows)
+unfolding record_page
+record_is_page v rows are =
     let width : ℕ = width_of v.metric v.dim in
     let tail : List ℕ = replicate (16384 - slot_at width (slots_in_page width)) 0 in
     let slots : List ℕ = flat_map (slot_bytes width) rows in
@@ -70,8 +76,13 @@ body_is_page v rows are =
 pub heads : HeadsHaveOneSpelling
 heads = λ page h is. (λ said. head_from page h is.len is.bytes said, λ both. head_again page h both.0 both.1)
 
-pub bodies : BodiesHaveOneSpelling
-bodies = λ v page rows within is. (λ said. body_from v page rows is.bytes is.len said, λ both. body_again v page rows both.0 both.1)
+pub rows_spelled : RowsHaveOneSpelling
+rows_spelled = λ v page rows within is. (λ said. record_from v page rows is.bytes is.len said, λ both. record_again v page rows both.0 both.1)
+
+body_is_page : (v : Values) (body : Body) → IsTrue (are_within v.metric v.dim v.eps v.minpts v.cap) → IsBody v body → IsPage (body_bytes v body)
+body_is_page v (Slots rows) within are = record_is_page v rows are
+body_is_page v (Leaves leaves) within are = leaf_pages leaves are
+body_is_page v (Inner rows) within are = inner_pages v rows within are
 
 pub written : WrittenArePages
-written = (λ h is. head_is_page h, λ v rows within are. body_is_page v rows are)
+written = (λ h is. head_is_page h, λ v body within is. body_is_page v body within is)

@@ -9,7 +9,7 @@ use Rattle.vec_record.specs.Limits.{width_of}
 use Rattle.page_layout.specs.declared.slot.Slot.{Slot}
 use Rattle.page_layout.specs.Fields.{word}
 use Rattle.page_layout.specs.Heads.{Values}
-use Rattle.page_layout.specs.Bodies.{Rows, slots_in_page, slot_at, IsRow, AreRows, slot_bytes, body_page}
+use Rattle.page_layout.specs.Slots.{Rows, slots_in_page, slot_at, IsRow, AreRows, slot_bytes, record_page}
 use Rattle.page_layout.proofs.Places.{put_more}
 
 -- the slots of a page end within it
@@ -41,8 +41,8 @@ zeros_joined a b c n is =
     let front : List ℕ = replicate a 0 in
     ap (λ (l : List ℕ). front ++ l) (replicate-append-replicate b c 0) ∙ replicate-append-replicate a (b + c) 0 ∙ ap (λ (k : ℕ). replicate k 0) is
 
-pub free_page : (width : ℕ) (blank new : List ℕ) → blank ≡ replicate 16384 0 → new ≡ set blank 0 1 → new ≡ body_page width (replicate (slots_in_page width) None)
-unfolding body_page
+pub free_page : (width : ℕ) (blank new : List ℕ) → blank ≡ replicate 16384 0 → new ≡ set blank 0 1 → new ≡ record_page width (replicate (slots_in_page width) None)
+unfolding record_page
 free_page width blank new are is =
     let n : ℕ = slots_in_page width in
     let m : ℕ = (16 + width) * n in
@@ -82,9 +82,9 @@ replaced front mid back new at n at_is n_is =
     ap (λ (l : List ℕ). l ++ new ++ drop (at + n) (front ++ (mid ++ back))) (take_at front (mid ++ back) at at_is) ∙ ap (λ (l : List ℕ). front ++ new ++ l) after ∙ append_assoc front new back
 
 page_parts : (width : ℕ) (before : Rows) (row : Option Slot) (after : Rows)
-    → body_page width (before ++ row ∷ after)
+    → record_page width (before ++ row ∷ after)
     ≡ ((1 ∷ replicate 15 0) ++ flat_map (slot_bytes width) before) ++ (slot_bytes width row ++ (flat_map (slot_bytes width) after ++ replicate (16384 - slot_at width (slots_in_page width)) 0))
-unfolding body_page
+unfolding record_page
 page_parts width before row after =
     let f = slot_bytes width in
     let tail : List ℕ = replicate (16384 - slot_at width (slots_in_page width)) 0 in
@@ -95,9 +95,9 @@ page_parts width before row after =
 rows_split : (rows : Rows) (place : ℕ) → place < length rows → rows ≡ take place rows ++ get_or rows place None ∷ drop (place + 1) rows
 rows_split rows place lt = sym (take-append-drop place rows) ∙ ap (λ (l : Rows). take place rows ++ l) (drop_more rows place None lt)
 
-pub slot_written : (v : Values) (rows : Rows) (place : ℕ) (s : Slot) (old new : List ℕ) → AreRows v rows → place < slots_in_page (width_of v.metric v.dim) → old ≡ body_page (width_of v.metric v.dim) rows
+pub slot_written : (v : Values) (rows : Rows) (place : ℕ) (s : Slot) (old new : List ℕ) → AreRows v rows → place < slots_in_page (width_of v.metric v.dim) → old ≡ record_page (width_of v.metric v.dim) rows
     → new ≡ take (slot_at (width_of v.metric v.dim) place) old ++ slot_bytes (width_of v.metric v.dim) (Some s) ++ drop (slot_at (width_of v.metric v.dim) place + (16 + width_of v.metric v.dim)) old
-    → new ≡ body_page (width_of v.metric v.dim) (set rows place (Some s))
+    → new ≡ record_page (width_of v.metric v.dim) (set rows place (Some s))
 slot_written v rows place s old new are lt old_is new_is =
     let width : ℕ = width_of v.metric v.dim in
     let at : ℕ = slot_at width place in
@@ -107,12 +107,12 @@ slot_written v rows place s old new are lt old_is new_is =
     let front : List ℕ = (1 ∷ replicate 15 0) ++ flat_map f (take place rows) in
     let back : List ℕ = flat_map f (drop (place + 1) rows) ++ replicate (16384 - slot_at width (slots_in_page width)) 0 in
     let len : length front ≡ at = omega (arith, length-append (1 ∷ replicate 15 0) (flat_map f (take place rows)), length-rows v (take place rows) (each-take v place rows are.each), ap (λ (n : ℕ). (16 + width) * n) (length-take-le place rows (omega (arith, within)))) in
-    let was : old ≡ front ++ (f row ++ back) = old_is ∙ ap (body_page width) (rows_split rows place within) ∙ page_parts width (take place rows) row (drop (place + 1) rows) in
+    let was : old ≡ front ++ (f row ++ back) = old_is ∙ ap (record_page width) (rows_split rows place within) ∙ page_parts width (take place rows) row (drop (place + 1) rows) in
     let one : suc place ≡ place + 1 = omega arith in
     let rows_are : set rows place (Some s) ≡ take place rows ++ Some s ∷ drop (place + 1) rows = set_split rows place (Some s) within ∙ ap (λ (k : ℕ). take place rows ++ Some s ∷ drop k rows) one in
     new_is ∙ ap (λ (l : List ℕ). take at l ++ f (Some s) ++ drop (at + (16 + width)) l) was
     ∙ replaced front (f row) back (f (Some s)) at (16 + width) len (length-row v row (each-get v place rows are.each))
-    ∙ sym (ap (body_page width) rows_are ∙ page_parts width (take place rows) (Some s) (drop (place + 1) rows))
+    ∙ sym (ap (record_page width) rows_are ∙ page_parts width (take place rows) (Some s) (drop (place + 1) rows))
 
 -- ---- the two writes of a slot
 
@@ -127,7 +127,7 @@ slot_put at old mid new bytes s le bytes_are mid_is new_is =
 
 pub slot_put_written : (v : Values) (place n : ℕ) (s : Slot) (old new : List ℕ) → n ≡ width_of v.metric v.dim → place < slots_in_page (width_of v.metric v.dim) → length s.vector ≡ width_of v.metric v.dim
     → new ≡ take (16 + (16 + n) * place) old ++ slot_bytes (length s.vector) (Some s) ++ drop (16 + (16 + n) * place + 16 + length s.vector) old
-    → (rows : Rows) → AreRows v rows → old ≡ body_page (width_of v.metric v.dim) rows → new ≡ body_page (width_of v.metric v.dim) (set rows place (Some s))
+    → (rows : Rows) → AreRows v rows → old ≡ record_page (width_of v.metric v.dim) rows → new ≡ record_page (width_of v.metric v.dim) (set rows place (Some s))
 slot_put_written v place n s old new n_is lt len new_is rows are old_is =
     let width : ℕ = width_of v.metric v.dim in
     let at_is : 16 + (16 + n) * place ≡ slot_at width place = ap (λ (k : ℕ). 16 + (16 + k) * place) n_is in

@@ -1,15 +1,15 @@
 -- A slot has one spelling, and what reading it gives.
-use Rattle.std.proofs.Common.{◌≡◌, inl, inr, ℕ, ◌+◌, ◌-◌, ◌≤◌, Bool, true, eqb, cond, List, [], ◌∷◌, ◌++◌, length, take, drop, replicate, Option, Some, None, refl, sym, ap, subst, ◌∙◌, append_assoc, arith}
-use Rattle.std.proofs.lemmas.Bool.{cases_Bool, eqb-true, eqb-false, eq-eqb, ne_eqb}
+use Rattle.std.proofs.Common.{◌≡◌, inl, inr, ℕ, ◌+◌, ◌-◌, ◌^◌, ◌<◌, ◌≤◌, Bool, true, eqb, leb, cond, List, [], ◌∷◌, ◌++◌, length, take, drop, replicate, Option, Some, None, refl, sym, ap, subst, ◌∙◌, append_assoc, arith}
+use Rattle.std.proofs.lemmas.Bool.{cases_Bool, leb-true, le-leb, eqb-true, eqb-false, eq-eqb, ne_eqb, and_parts}
 use Rattle.std.proofs.lemmas.List.{replicate-append-replicate}
 use Rattle.vec_record.specs.Vectors.{AreBytes}
-use Rattle.vec_record.specs.Limits.{width_of}
+use Rattle.vec_record.specs.Limits.{is_between, width_of}
 use Rattle.vec_record.specs.Spelled.{is_spelled}
 use Rattle.page_gate.specs.Gate.{part, number_4}
 use Rattle.page_layout.specs.declared.slot.Slot.{Slot}
 use Rattle.page_layout.specs.Fields.{Field, word, zero_fields, first_bad, unless_bad}
 use Rattle.page_layout.specs.Heads.{Values}
-use Rattle.page_layout.specs.Bodies.{slot_fields, slot_in, IsSlot, IsRow, slot_bytes}
+use Rattle.page_layout.specs.Slots.{is_core_count, is_anchor, is_label, slot_fields, slot_in, IsSlot, IsRow, slot_bytes}
 use Rattle.page_layout.specs.Steps.{slot_of}
 use Rattle.page_layout.proofs.Places.{bytes-part, length-part, part_then, part_is, behind, number_small, word_then, number_is, first_lawful, zeros_then, zeros_are}
 
@@ -18,8 +18,8 @@ used_with at width count anchor label spelled = (at + 4, count) ∷ (at + 8, anc
 
 abbrev pub used_fields : Values → List ℕ → ℕ → List Field
 used_fields v page at =
-    used_with at (width_of v.metric v.dim) (eqb (number_4 (at + 4) page) 0) (eqb (number_4 (at + 8) page) 0) (eqb (number_4 (at + 12) page) 0)
-    (is_spelled v.metric v.dim (part (at + 16) (width_of v.metric v.dim) page))
+    used_with at (width_of v.metric v.dim) (leb 1 (number_4 (at + 4) page)) (is_anchor v (number_4 (at + 4) page) (number_4 (at + 8) page))
+    (is_label v (number_4 at page) (number_4 (at + 4) page) (number_4 (at + 12) page)) (is_spelled v.metric v.dim (part (at + 16) (width_of v.metric v.dim) page))
 
 record AreUsed (count anchor label spelled : Bool) : Type 0 where
   first : count ≡ true
@@ -103,13 +103,15 @@ module _ (v : Values) (page : List ℕ) (bytes : AreBytes page) (at : ℕ) (le :
   used_lawful : (number_4 at page ≡ 0 → ⊥) → first_bad (used_fields v page at) ≡ None → IsSlot v (found (width_of v.metric v.dim) page at)
   used_lawful used lawful =
       let width : ℕ = width_of v.metric v.dim in
-      let all = used_parts at width (eqb (number_4 (at + 4) page) 0) (eqb (number_4 (at + 8) page) 0) (eqb (number_4 (at + 12) page) 0) (is_spelled v.metric v.dim (part (at + 16) width page)) lawful in
+      let all = used_parts at width (leb 1 (number_4 (at + 4) page)) (is_anchor v (number_4 (at + 4) page) (number_4 (at + 8) page)) (is_label v (number_4 at page) (number_4 (at + 4) page) (number_4 (at + 12) page)) (is_spelled v.metric v.dim (part (at + 16) width page)) lawful in
       record {
         number = used;
         small = number_small at page bytes;
-        count = eqb-true (number_4 (at + 4) page) 0 all.first;
-        anchor = eqb-true (number_4 (at + 8) page) 0 all.second;
-        label = eqb-true (number_4 (at + 12) page) 0 all.third;
+        count = leb-true 1 (number_4 (at + 4) page) all.first;
+        count_fits = number_small (at + 4) page bytes;
+        anchor = all.second;
+        anchor_fits = number_small (at + 8) page bytes;
+        label = all.third;
         vector = record { len = length-part (at + 16) width page (omega (arith, le)); bytes = bytes-part (at + 16) width page bytes };
         spelled = all.fourth;
       }
@@ -132,6 +134,18 @@ pub record IsRead (v : Values) (page : List ℕ) (at : ℕ) (row : Option Slot) 
   pub lawful : first_bad (slot_fields v page at) ≡ None
   pub same : slot_in (width_of v.metric v.dim) page at ≡ row
 
+-- a label that is lawful is at most its record's number
+pub label_most : (v : Values) (number count label : ℕ) → is_label v number count label ≡ true → label ≤ number
+label_most v number count label is =
+    let all = λ (b : Bool). cond b (is_between 1 number label) (eqb label 0) in
+    elim (cases_Bool (is_core_count v count)) [
+      | inl yes_is ↦ leb-true label number (and_parts (leb 1 label) (leb label number) (ap all (sym yes_is) ∙ is)).1
+      | inr no_is ↦ let none : label ≡ 0 = eqb-true label 0 (ap all (sym no_is) ∙ is) in omega (arith, none)
+    ]
+
+pub label_fits : (v : Values) (s : Slot) → IsSlot v s → s.label < 2 ^ 32
+label_fits v s is = omega (arith, is.small, label_most v s.number s.count s.label is.label)
+
 -- a slot that was written is read again
 pub slot_again : (v : Values) (page : List ℕ) (at : ℕ) (row : Option Slot) (rest : List ℕ) → IsRow v row → drop at page ≡ slot_bytes (width_of v.metric v.dim) row ++ rest → IsRead v page at row
 slot_again v page at None rest is holds =
@@ -150,15 +164,16 @@ slot_again v page at (Some s) rest is holds =
     let label_here : drop (at + 12) page ≡ word s.label ++ (s.vector ++ rest) = on (at + 8) (at + 12) s.anchor _ (omega arith) anchor_here in
     let vector_here : drop (at + 16) page ≡ s.vector ++ rest = on (at + 12) (at + 16) s.label _ (omega arith) label_here in
     let number : number_4 at page ≡ s.number = number_is at s.number page _ is.small holds in
-    let count : number_4 (at + 4) page ≡ s.count = number_is (at + 4) s.count page _ (omega (arith, is.count)) count_here in
-    let anchor : number_4 (at + 8) page ≡ s.anchor = number_is (at + 8) s.anchor page _ (omega (arith, is.anchor)) anchor_here in
-    let label : number_4 (at + 12) page ≡ s.label = number_is (at + 12) s.label page _ (omega (arith, is.label)) label_here in
+    let count : number_4 (at + 4) page ≡ s.count = number_is (at + 4) s.count page _ is.count_fits count_here in
+    let anchor : number_4 (at + 8) page ≡ s.anchor = number_is (at + 8) s.anchor page _ is.anchor_fits anchor_here in
+    let label : number_4 (at + 12) page ≡ s.label = number_is (at + 12) s.label page _ (label_fits v s is) label_here in
     let vector : part (at + 16) width page ≡ s.vector = part_is (at + 16) width page s.vector rest vector_here is.vector.len in
     let used : number_4 at page ≡ 0 → ⊥ = λ zero_is. is.number (sym number ∙ zero_is) in
     record {
       lawful = ap first_bad (fields_used v page at used)
-          ∙ used_from at width (eqb (number_4 (at + 4) page) 0) (eqb (number_4 (at + 8) page) 0) (eqb (number_4 (at + 12) page) 0) (is_spelled v.metric v.dim (part (at + 16) width page))
-          (eq-eqb _ 0 (count ∙ is.count)) (eq-eqb _ 0 (anchor ∙ is.anchor)) (eq-eqb _ 0 (label ∙ is.label)) (ap (is_spelled v.metric v.dim) vector ∙ is.spelled);
+          ∙ used_from at width (leb 1 (number_4 (at + 4) page)) (is_anchor v (number_4 (at + 4) page) (number_4 (at + 8) page)) (is_label v (number_4 at page) (number_4 (at + 4) page) (number_4 (at + 12) page))
+          (is_spelled v.metric v.dim (part (at + 16) width page)) (ap (leb 1) count ∙ le-leb 1 s.count is.count) (ap (λ (k : ℕ). is_anchor v k (number_4 (at + 8) page)) count ∙ ap (is_anchor v s.count) anchor ∙ is.anchor)
+          (ap (λ (k : ℕ). is_label v k (number_4 (at + 4) page) (number_4 (at + 12) page)) number ∙ ap (λ (k : ℕ). is_label v s.number k (number_4 (at + 12) page)) count ∙ ap (is_label v s.number s.count) label ∙ is.label) (ap (is_spelled v.metric v.dim) vector ∙ is.spelled);
       same = used_in_is width page at used s.number s.count s.anchor s.label s.vector (sym number) (sym count) (sym anchor) (sym label) (sym vector);
     }
 
@@ -180,8 +195,9 @@ module _ (v : Values) (page : List ℕ) (at : ℕ) where
       let same : at + 16 + n - (at + 16) ≡ width_of v.metric v.dim = omega (arith, is) in
       ap (λ (k : ℕ). take k (drop (at + 16) page)) same
 
-  pub used_are : (width count anchor label : ℕ) (vector : List ℕ) (spelled : Bool) → width ≡ width_of v.metric v.dim → count ≡ number_4 (at + 4) page → anchor ≡ number_4 (at + 8) page → label ≡ number_4 (at + 12) page
-      → vector ≡ part (at + 16) (width_of v.metric v.dim) page → spelled ≡ is_spelled v.metric v.dim vector → used_with at width (eqb count 0) (eqb anchor 0) (eqb label 0) spelled ≡ used_fields v page at
-  used_are width count anchor label vector spelled width_is count_is anchor_is label_is vector_is spelled_is =
+  pub used_are : (width number count anchor label : ℕ) (vector : List ℕ) (lawful_anchor lawful_label spelled : Bool) → width ≡ width_of v.metric v.dim → number ≡ number_4 at page → count ≡ number_4 (at + 4) page
+      → anchor ≡ number_4 (at + 8) page → label ≡ number_4 (at + 12) page → vector ≡ part (at + 16) (width_of v.metric v.dim) page → lawful_anchor ≡ is_anchor v count anchor → lawful_label ≡ is_label v number count label
+      → spelled ≡ is_spelled v.metric v.dim vector → used_with at width (leb 1 count) lawful_anchor lawful_label spelled ≡ used_fields v page at
+  used_are width number count anchor label vector lawful_anchor lawful_label spelled width_is number_is count_is anchor_is label_is vector_is anchor_lawful label_lawful spelled_is =
       let test : spelled ≡ is_spelled v.metric v.dim (part (at + 16) (width_of v.metric v.dim) page) = spelled_is ∙ ap (is_spelled v.metric v.dim) vector_is in
-      rw (test, width_is, count_is, anchor_is, label_is) refl
+      rw (anchor_lawful, label_lawful, test, width_is, number_is, count_is, anchor_is, label_is) refl

@@ -1,116 +1,37 @@
--- Body pages. All are record pages: slots of one width, each free or with a record.
-use Rattle.std.specs.Prelude.{◌≡◌, ◌≢◌, ℕ, ◌+◌, ◌-◌, ◌*◌, ◌/◌, ◌<◌, ◌^◌, ◌==◌, if◌then◌else◌, List, [], ◌∷◌, ◌++◌, length, map, replicate, get_or, set, Option, Some, None, Result, IsTrue}
-use Rattle.std.specs.List.{AllByRecursion, flat_map, range_with_len}
-use Rattle.vec_record.specs.Vectors.{IsVector}
+-- Body pages of any kind: what a page says by its first byte, and its written form.
+use Rattle.std.specs.Prelude.{ℕ, ◌==◌, if◌then◌else◌, List, get_or, Result, Ok, Err}
 use Rattle.vec_record.specs.Limits.{width_of}
-use Rattle.vec_record.specs.Spelled.{is_spelled}
-use Rattle.page_gate.specs.Gate.{part, number_4}
 use Rattle.page_layout.specs.declared.fault.LayoutFault.{LayoutFault}
+use Rattle.page_layout.specs.declared.fault.LayoutFault.TheVariants.{Damaged}
 use Rattle.page_layout.specs.declared.body.Body.{Body}
-use Rattle.page_layout.specs.declared.body.Body.TheVariants.{Slots}
-use Rattle.page_layout.specs.declared.slot.Slot.{Slot}
-use Rattle.page_layout.specs.declared.slot.SlotView.{SlotView}
-use Rattle.page_layout.specs.Fields.{Field, word, zero_fields, first_bad, unless_bad}
+use Rattle.page_layout.specs.declared.body.Body.TheVariants.{Slots, Leaves, Inner}
 use Rattle.page_layout.specs.Heads.{Values}
+use Rattle.page_layout.specs.Slots.{AreRows, rows_of_page, record_page}
+use Rattle.page_layout.specs.Leaves.{AreLeaves, leaves_of, leaf_page}
+use Rattle.page_layout.specs.Inner.{AreInner, inner_of, inner_page}
 
--- the slots of a page, each free or with a record
-abbrev pub Rows : Type 0
-Rows = List (Option Slot)
+-- what was read of a page of one kind, as a body
+abbrev pub as_body : {A : Type 0} → (A → Body) → Result A LayoutFault → Result Body LayoutFault
+as_body body (Ok value) = Ok (body value)
+as_body body (Err fault) = Err fault
 
-abbrev pub rows_of : Body → Rows
-rows_of (Slots rows) = rows
+-- what a page says as a body page: by its first byte the slots of records, the slots of leaves or an inner node, and
+-- damaged at that byte where it is no kind
+unfoldable pub body_of : Values → List ℕ → Result Body LayoutFault
+body_of v page =
+    if get_or page 0 0 == 1 then as_body Slots (rows_of_page v page)
+    else if get_or page 0 0 == 2 then as_body Leaves (leaves_of page)
+    else if get_or page 0 0 == 3 then as_body Inner (inner_of v page)
+    else Err (Damaged 0)
 
--- a record that is lent, as what its slot holds
-abbrev pub lent : SlotView → Slot
-lent s = record { number = s.number; count = s.count; anchor = s.anchor; label = s.label; vector = s.vector.now }
+-- what a body page may say
+abbrev pub IsBody : Values → Body → Type 0
+IsBody v (Slots rows) = AreRows v rows
+IsBody v (Leaves leaves) = AreLeaves leaves
+IsBody v (Inner rows) = AreInner v rows
 
--- the bytes of a slot whose vector has this width, and how many slots a page has
-abbrev pub slot_size : ℕ → ℕ
-slot_size width = 16 + width
-
-abbrev pub slots_in_page : ℕ → ℕ
-slots_in_page width = 16368 / slot_size width
-
--- where a slot begins
-abbrev pub slot_at : ℕ → ℕ → ℕ
-slot_at width i = 16 + slot_size width * i
-
--- The fields of a slot behind its number: a free one is zero; in a used one the count, the anchor and the label are
--- zero, and the vector has no bit past its last, which is charged to its last byte.
-abbrev pub slot_fields : Values → List ℕ → ℕ → List Field
-slot_fields v page at =
-    if number_4 at page == 0 then zero_fields (at + 4) (12 + width_of v.metric v.dim) page
-    else (at + 4, number_4 (at + 4) page == 0) ∷ (at + 8, number_4 (at + 8) page == 0) ∷ (at + 12, number_4 (at + 12) page == 0)
-    ∷ (at + 15 + width_of v.metric v.dim, is_spelled v.metric v.dim (part (at + 16) (width_of v.metric v.dim) page)) ∷ []
-
--- the fields of n slots from this one on
-abbrev pub slots_fields : Values → List ℕ → ℕ → ℕ → List Field
-slots_fields v page i n = flat_map (λ k. slot_fields v page (slot_at (width_of v.metric v.dim) k)) (range_with_len i n)
-
--- the fields of a record page by rising offset: its kind, zeros, the slots, and zeros
-unfoldable pub body_fields : Values → List ℕ → List Field
-body_fields v page =
-    let width = width_of v.metric v.dim in
-    let n = slots_in_page width in
-    (0, get_or page 0 0 == 1) ∷ (zero_fields 1 15 page ++ (slots_fields v page 0 n ++ zero_fields (slot_at width n) (16384 - slot_at width n) page))
-
--- what a slot says
-unfoldable pub slot_in : ℕ → List ℕ → ℕ → Option Slot
-slot_in width page at =
-    if number_4 at page == 0 then None
-    else Some (record {
-      number = number_4 at page;
-      count = number_4 (at + 4) page;
-      anchor = number_4 (at + 8) page;
-      label = number_4 (at + 12) page;
-      vector = part (at + 16) width page;
-    })
-
--- what the slots of a page say
-abbrev pub rows_in : ℕ → List ℕ → Rows
-rows_in width page = map (λ k. slot_in width page (slot_at width k)) (range_with_len 0 (slots_in_page width))
-
--- what a page says as a body page: damaged at the first field that isn't lawful, or its slots
-unfoldable pub body_of : Values → List ℕ → Result Rows LayoutFault
-body_of v page = unless_bad (first_bad (body_fields v page)) (rows_in (width_of v.metric v.dim) page)
-
--- what a used slot may hold
-pub record IsSlot (v : Values) (s : Slot) : Type 0 where
-  pub number : s.number ≢ 0
-  pub small : s.number < 2 ^ 32
-  pub count : s.count ≡ 0
-  pub anchor : s.anchor ≡ 0
-  pub label : s.label ≡ 0
-  pub vector : IsVector (width_of v.metric v.dim) s.vector
-  pub spelled : IsTrue (is_spelled v.metric v.dim s.vector)
-
-abbrev pub IsRow : Values → Option Slot → Type 0
-IsRow v None = Unit {0}
-IsRow v (Some s) = IsSlot v s
-
--- what the slots of a page may be
-pub record AreRows (v : Values) (rows : Rows) : Type 0 where
-  pub count : length rows ≡ slots_in_page (width_of v.metric v.dim)
-  pub each : AllByRecursion (IsRow v) rows
-
--- the bytes of a slot
-abbrev pub slot_bytes : ℕ → Option Slot → List ℕ
-slot_bytes width None = replicate (16 + width) 0
-slot_bytes width (Some s) = word s.number ++ (word s.count ++ (word s.anchor ++ (word s.label ++ s.vector)))
-
--- the written form of a record page, 16,384 bytes
-unfoldable pub body_page : ℕ → Rows → List ℕ
-body_page width rows = (1 ∷ replicate 15 0) ++ (flat_map (slot_bytes width) rows ++ replicate (16384 - slot_at width (slots_in_page width)) 0)
-
--- a page whose slots are lawful gets this row at a place, and keeps its other slots
-abbrev pub PutsRow : Values → ℕ → Option Slot → List ℕ → List ℕ → Type 0
-PutsRow v place row old new =
-    (rows : Rows) → AreRows v rows → old ≡ body_page (width_of v.metric v.dim) rows
-    → new ≡ body_page (width_of v.metric v.dim) (set rows place row)
-
--- the same, where the slot at the place is free
-abbrev pub FillsRow : Values → ℕ → Option Slot → List ℕ → List ℕ → Type 0
-FillsRow v place row old new =
-    (rows : Rows) → AreRows v rows → get_or rows place None ≡ None
-    → old ≡ body_page (width_of v.metric v.dim) rows
-    → new ≡ body_page (width_of v.metric v.dim) (set rows place row)
+-- its written form, 16,384 bytes
+abbrev pub body_bytes : Values → Body → List ℕ
+body_bytes v (Slots rows) = record_page (width_of v.metric v.dim) rows
+body_bytes v (Leaves leaves) = leaf_page leaves
+body_bytes v (Inner rows) = inner_page (width_of v.metric v.dim) rows

@@ -1,5 +1,5 @@
 -- The head page: what it says, its grammar, and its one written form.
-use Rattle.std.specs.Prelude.{◌≡◌, ℕ, ◌<◌, ◌≤◌, ◌^◌, ◌==◌, nat_le, if◌then◌else◌, List, ◌∷◌, ◌++◌, replicate, Result, Err, IsTrue}
+use Rattle.std.specs.Prelude.{◌≡◌, ℕ, ◌<◌, ◌≤◌, ◌^◌, ◌==◌, Bool, nat_le, if◌then◌else◌, List, ◌∷◌, ◌++◌, replicate, Result, Err, IsTrue}
 use Rattle.vec_record.specs.declared.kind.MetricKind.{MetricKind}
 use Rattle.vec_record.specs.declared.kind.MetricKind.TheVariants.{L1, Max, Hamming}
 use Rattle.vec_record.specs.declared.params.Params as params
@@ -48,12 +48,19 @@ metric_of n = if n == 1 then L1 else if n == 2 then Max else Hamming
 abbrev pub dim_limit : ℕ → ℕ
 dim_limit metric = if metric == 3 then 2048 else 256
 
--- the one version whose pages are known: record pages alone
+-- the one version whose pages are known
 abbrev pub known_version : ℕ
-known_version = 0
+known_version = 1
 
--- the fields of a head page by rising offset, but for the version, which is judged first; the root and the height of a
--- tree are zero
+-- whether a root is lawful beside the number of records: it is 0 exactly where there is none
+abbrev pub is_root : ℕ → ℕ → Bool
+is_root count root = if count == 0 then root == 0 else nat_le 1 root
+
+-- whether a height is lawful beside the number of records: it is 0 where there is none, and else 1 to 6
+abbrev pub is_height : ℕ → ℕ → Bool
+is_height count height = if count == 0 then height == 0 else is_between 1 6 height
+
+-- the fields of a head page by rising offset, but for the version, which is judged first
 unfoldable pub head_fields : List ℕ → List Field
 head_fields page =
     (0, nat_le 2 (number_4 0 page))
@@ -63,8 +70,8 @@ head_fields page =
     ∷ (20, is_between 1 65535 (number_4 20 page))
     ∷ (24, is_between 1 200000 (number_4 24 page))
     ∷ (32, nat_le (number_4 32 page) (number_4 24 page))
-    ∷ (36, number_4 36 page == 0)
-    ∷ (40, number_4 40 page == 0)
+    ∷ (36, is_root (number_4 32 page) (number_4 36 page))
+    ∷ (40, is_height (number_4 32 page) (number_4 40 page))
     ∷ zero_fields 44 16340 page
 
 -- what the fields say
@@ -100,8 +107,9 @@ pub record IsHead (h : HeadValue) : Type 0 where
   pub values : IsTrue (are_within h.values.metric h.values.dim h.values.eps h.values.minpts h.values.cap)
   pub batches : h.batches < 2 ^ 32
   pub count : h.count ≤ h.values.cap
-  pub root : h.root ≡ 0
-  pub height : h.height ≡ 0
+  pub root : IsTrue (is_root h.count h.root)
+  pub root_fits : h.root < 2 ^ 32
+  pub height : IsTrue (is_height h.count h.height)
 
 -- its written form, 16,384 bytes
 unfoldable pub head_page : HeadValue → List ℕ

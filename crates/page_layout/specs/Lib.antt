@@ -1,5 +1,6 @@
 pub mod Fields
 pub mod Heads
+pub mod Slots
 pub mod Bodies
 pub mod Leaves
 pub mod Inner

@@ -1,11 +1,11 @@
--- What the steps of reading a body page give.
+-- What the steps of reading a page of records give.
 use Rattle.std.specs.Prelude.{ℕ, List, Option, Result}
 use Rattle.vec_record.specs.Limits.{width_of}
 use Rattle.page_layout.specs.declared.fault.LayoutFault.{LayoutFault}
 use Rattle.page_layout.specs.declared.slot.Slot.{Slot}
 use Rattle.page_layout.specs.Fields.{first_bad, unless_bad}
 use Rattle.page_layout.specs.Heads.{Values}
-use Rattle.page_layout.specs.Bodies.{Rows, slots_in_page, slot_fields, slots_fields, slot_in, rows_in}
+use Rattle.page_layout.specs.Slots.{Rows, slots_in_page, slot_fields, slots_fields, slot_in, rows_in}
 
 -- what a slot says: damaged at its first field that isn't lawful, or else free or a record
 abbrev pub slot_of : Values → List ℕ → ℕ → Result (Option Slot) LayoutFault

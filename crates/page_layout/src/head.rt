@@ -3,7 +3,8 @@
 ghost use Rattle.std.specs.Prelude.{◌≡◌, ◌≢◌, length, Ok, Err, None, IfOk, IfErr, MatchResult};
 ghost use Rattle.page_layout.specs.Fields.{first_bad};
 ghost use Rattle.page_layout.specs.Heads.{IsHead, plain, values_of, metric_number, metric_of};
-ghost use Rattle.page_layout.specs.Heads.{dim_limit, head_fields, values_in, head_of, head_page};
+ghost use Rattle.page_layout.specs.Heads.{dim_limit, is_root, is_height, head_fields, values_in};
+ghost use Rattle.page_layout.specs.Heads.{head_of, head_page};
 
 use crate::fault::LayoutFault;
 use crate::field::{first_bad, first_set, is_between, put_words, word_at};
@@ -21,7 +22,7 @@ pub struct Head {
     pub batches: u32,
     /// How many records there are.
     pub count: u32,
-    /// The place of the tree's root, and the tree's height.
+    /// The reference of the tree's root, and the number of its levels; both are 0 for no record.
     pub root: u32,
     pub height: u32,
 }
@@ -55,6 +56,24 @@ fn dim_limit(metric: u32) -> u32
     if metric == 3 { 2048 } else { 256 }
 }
 
+/// Whether a root is lawful beside the number of records.
+fn is_root(count: u32, root: u32) -> bool
+    ensures { result ≡ is_root count root }
+{
+    if count == 0 { root == 0 } else { root >= 1 }
+}
+
+/// Whether a height is lawful beside the number of records.
+fn is_height(count: u32, height: u32) -> bool
+    ensures { result ≡ is_height count height }
+{
+    if count == 0 {
+        height == 0
+    } else {
+        is_between(1, 6, height)
+    }
+}
+
 /// Fills the head page.
 pub fn write_head(head: &Head, out: &mut Page)
     requires { IsHead (plain head.now) }
@@ -85,6 +104,7 @@ fn bad_head_field(page: &[u8]) -> Option<u32>
 {
     let metric = word_at(page, 8);
     let cap = word_at(page, 24);
+    let count = word_at(page, 32);
     let fields = [
         (0, word_at(page, 0) >= 2),
         (8, is_between(1, 3, metric)),
@@ -92,9 +112,9 @@ fn bad_head_field(page: &[u8]) -> Option<u32>
         (16, is_between(0, 65_535, word_at(page, 16))),
         (20, is_between(1, 65_535, word_at(page, 20))),
         (24, is_between(1, 200_000, cap)),
-        (32, word_at(page, 32) <= cap),
-        (36, word_at(page, 36) == 0),
-        (40, word_at(page, 40) == 0),
+        (32, count <= cap),
+        (36, is_root(count, word_at(page, 36))),
+        (40, is_height(count, word_at(page, 40))),
     ];
     match first_bad(&fields) {
         Some(offset) => Some(offset),
@@ -126,7 +146,7 @@ fn read_fields(page: &[u8]) -> Result<Head, LayoutFault>
     ensures memory { IfErr result (λ e. e ≢ LayoutFault.Memory) }
 {
     let version = word_at(page, 4);
-    if version != 0 {
+    if version != 1 {
         return Err(LayoutFault::Foreign);
     }
     if let Some(offset) = bad_head_field(page) {

@@ -1,6 +1,6 @@
 //! Laws over the definitions. Each is the contract of a function that does nothing.
-ghost use Rattle.page_layout.specs.Laws.{HeadsHaveOneSpelling, BodiesHaveOneSpelling};
-ghost use Rattle.page_layout.specs.Laws.{WrittenArePages};
+ghost use Rattle.page_layout.specs.Laws.{HeadsHaveOneSpelling, RowsHaveOneSpelling};
+ghost use Rattle.page_layout.specs.Laws.{BodiesHaveOneSpelling, WrittenArePages};
 ghost use Rattle.page_layout.specs.Laws.{LeavesHaveOneSpelling, LeavesArePages};
 ghost use Rattle.page_layout.specs.Laws.{InnerHaveOneSpelling, InnerArePages};
 
@@ -9,7 +9,12 @@ pub fn heads_have_one_spelling()
     ensures { HeadsHaveOneSpelling }
 {}
 
-/// A page is read as slots exactly where it is the written form of those.
+/// A page is read as the slots of records exactly where it is the written form of those.
+pub fn rows_have_one_spelling()
+    ensures { RowsHaveOneSpelling }
+{}
+
+/// A page is read as a body exactly where it is the written form of that.
 pub fn bodies_have_one_spelling()
     ensures { BodiesHaveOneSpelling }
 {}

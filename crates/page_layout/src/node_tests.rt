@@ -1,7 +1,6 @@
 //! Pages of leaves and of inner nodes by hand, and bytes changed in them.
 
-ghost use Rattle.std.specs.Prelude.{◌≡◌};
-
+use crate::tests::{exchange, is_only, one_byte};
 use crate::{
     LayoutFault, LeafSlots, clear_leaves, read_inner, read_leaves, write_inner, write_leaf,
 };
@@ -9,7 +8,7 @@ use mtree_node::LeafShape;
 use page_gate::Page;
 use std::alloc::{AllocError, Global};
 use std::test::Fail;
-use vec_record::{MetricKind, Params, Vector};
+use vec_record::Vector;
 
 /// A page of leaves up to the second entry of its first slot, which has the record 3.
 const LEAVES: [u8; 40] = [
@@ -63,26 +62,11 @@ const INNER_DAMAGES: [(usize, u8, u32); 16] = [
 ];
 
 /// A page of leaves by hand: the record 3 in the first slot, with the parent distance 0.
-fn first_leaves(alloc: Global) -> Result<Page, AllocError> {
+pub(crate) fn first_leaves(alloc: Global) -> Result<Page, AllocError> {
     let mut page = Page::zeros(alloc)?;
     clear_leaves(&mut page);
     write_leaf(0, &[(3, 0)], &mut page);
     Ok(page)
-}
-
-/// Whether a page begins with these bytes, and is zero behind them.
-fn is_only(page: &[u8], front: &[u8]) -> bool {
-    page.starts_with(front) && page.iter().skip(front.len()).all(|byte| *byte == 0)
-}
-
-/// Changes one byte of a page, and gives the one before.
-fn exchange(page: &mut Page, at: usize, byte: u8) -> u8 {
-    if at >= page.as_slice().len() {
-        return byte;
-    }
-    let before = page.as_slice()[at];
-    page.set(at, byte);
-    before
 }
 
 /// Why a page of leaves isn't read with this byte in it.
@@ -117,22 +101,8 @@ fn count_full(slots: &LeafSlots) -> usize {
         .count()
 }
 
-/// Parameters whose vectors have one byte, so that no distance is above 255.
-fn one_byte() -> Params
-    ensures metric { result.metric ≡ MetricKind.L1 }
-    ensures dim { result.dim ≡ 1 }
-{
-    Params {
-        metric: MetricKind::L1,
-        dim: 1,
-        eps: 1,
-        minpts: 2,
-        cap: 100,
-    }
-}
-
 /// A page with an inner node by hand.
-fn first_inner(alloc: Global) -> Result<Page, AllocError> {
+pub(crate) fn first_inner(alloc: Global) -> Result<Page, AllocError> {
     let rows = [
         (192, 0, 5, Vector::from_slice(alloc, &[9])?),
         (193, 7, 255, Vector::from_slice(alloc, &[200])?),

@@ -1,11 +1,11 @@
-//! A slot of a body page: one record with its line.
+//! A slot of a page of records: one record with its line.
 
 ghost use Rattle.std.specs.Prelude.{◌≡◌, ◌≤◌, ◌<◌, ◌+◌, ℕ, [], ◌∷◌, ◌++◌, length, take, drop, set};
 ghost use Rattle.std.specs.Prelude.{replicate, Some, None, OnOk, OnErr, IfOk};
 ghost use Rattle.vec_record.specs.Limits.{width_of};
 ghost use Rattle.page_layout.specs.Heads.{values_of};
-ghost use Rattle.page_layout.specs.Bodies.{IsSlot, lent, slots_in_page, slot_bytes};
-ghost use Rattle.page_layout.specs.Bodies.{body_page, PutsRow};
+ghost use Rattle.page_layout.specs.Slots.{IsSlot, lent, slots_in_page, slot_bytes};
+ghost use Rattle.page_layout.specs.Slots.{record_page, PutsRow};
 
 use crate::field::put_words;
 use page_gate::Page;
@@ -19,9 +19,9 @@ pub struct Slot {
     pub number: Number,
     /// The size of its neighbourhood.
     pub count: u32,
-    /// Its anchor, or 0.
+    /// The anchor of a record that is no core, or 0.
     pub anchor: Number,
-    /// Its label, or 0.
+    /// The label of a core, or 0.
     pub label: Number,
     pub vector: Vector,
 }
@@ -113,9 +113,9 @@ impl SlotRows {
     }
 }
 
-/// Fills a body page with free slots, whatever their width.
-pub fn clear_body(out: &mut Page)
-    ensures { (width : ℕ) → out.new ≡ body_page width (replicate (slots_in_page width) None) }
+/// Fills a page of records with free slots, whatever their width.
+pub fn clear_slots(out: &mut Page)
+    ensures { (width : ℕ) → out.new ≡ record_page width (replicate (slots_in_page width) None) }
 {
     out.clear();
     out.set(0, 1);
@@ -131,7 +131,7 @@ fn put_slot(out: &mut Page, at: usize, slot: SlotView<'_>)
     out.put(at + 16, slot.vector.as_slice());
 }
 
-/// Puts a record into its place in a body page, and leaves the other slots as they are.
+/// Puts a record into its place in a page of records, and leaves the other slots as they are.
 pub fn write_slot(params: &Params, place: usize, slot: SlotView<'_>, out: &mut Page)
     requires place { place < slots_in_page (width_of params.now.metric params.now.dim) }
     requires slot { IsSlot (values_of params.now) (lent slot) }

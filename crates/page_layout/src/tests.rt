@@ -2,8 +2,9 @@
 
 ghost use Rattle.std.specs.Prelude.{◌≡◌, ◌<◌};
 
+use crate::node_tests::{first_inner, first_leaves};
 use crate::{
-    Body, Head, LayoutFault, SlotRows, SlotView, clear_body, read_body, read_head, write_body,
+    Body, Head, LayoutFault, SlotRows, SlotView, clear_slots, read_body, read_head, write_body,
     write_head, write_slot,
 };
 use page_gate::Page;
@@ -11,14 +12,23 @@ use std::alloc::{AllocError, Global};
 use std::test::Fail;
 use vec_record::{MetricKind, Params, Vector};
 
-/// The head page of `l1 1 1 2 100` after its first batch, up to its zeros.
-const HEAD: [u8; 44] = [
-    3, 0, 0, 0, 0, 0, 0, 0, 1, 0, 0, 0, 1, 0, 0, 0, 1, 0, 0, 0, 2, 0, 0, 0, 100, 0, 0, 0, 1, 0, 0,
-    0, 1, 0, 0, 0, 0, 0, 0, 0, 0, 0, 0, 0,
+/// The head page of a new store with `l1 1 1 2 100`, up to its zeros.
+const NEW: [u8; 44] = [
+    2, 0, 0, 0, 1, 0, 0, 0, 1, 0, 0, 0, 1, 0, 0, 0, 1, 0, 0, 0, 2, 0, 0, 0, 100, 0, 0, 0, 0, 0, 0,
+    0, 0, 0, 0, 0, 0, 0, 0, 0, 0, 0, 0, 0,
 ];
 
 /// A byte changed in that page, and the offset of the field that isn't lawful then.
-const HEAD_DAMAGES: [(usize, u8, u32); 16] = [
+const NEW_DAMAGES: [(usize, u8, u32); 3] = [(32, 1, 36), (36, 1, 36), (40, 1, 40)];
+
+/// Its head page after a batch with one record, whose leaf is the first slot of page 3.
+const HEAD: [u8; 44] = [
+    4, 0, 0, 0, 1, 0, 0, 0, 1, 0, 0, 0, 1, 0, 0, 0, 1, 0, 0, 0, 2, 0, 0, 0, 100, 0, 0, 0, 1, 0, 0,
+    0, 1, 0, 0, 0, 0xc0, 0, 0, 0, 1, 0, 0, 0,
+];
+
+/// A byte changed in that page, and the offset of the field that isn't lawful then.
+const HEAD_DAMAGES: [(usize, u8, u32); 18] = [
     (0, 1, 0),
     (8, 0, 8),
     (8, 9, 8),
@@ -30,29 +40,31 @@ const HEAD_DAMAGES: [(usize, u8, u32); 16] = [
     (24, 0, 24),
     (27, 1, 24),
     (32, 101, 32),
-    (36, 1, 36),
-    (40, 1, 40),
+    (32, 0, 36),
+    (36, 0, 36),
+    (40, 0, 40),
+    (40, 7, 40),
     (44, 1, 44),
     (5_000, 1, 5_000),
     (16_383, 1, 16_383),
 ];
 
 /// A page of records up to its second slot, where the first one has the record 3 with the byte 9.
-const BODY: [u8; 33] = [
-    1, 0, 0, 0, 0, 0, 0, 0, 0, 0, 0, 0, 0, 0, 0, 0, 3, 0, 0, 0, 0, 0, 0, 0, 0, 0, 0, 0, 0, 0, 0, 0,
+const ONE: [u8; 33] = [
+    1, 0, 0, 0, 0, 0, 0, 0, 0, 0, 0, 0, 0, 0, 0, 0, 3, 0, 0, 0, 1, 0, 0, 0, 0, 0, 0, 0, 0, 0, 0, 0,
     9,
 ];
 
 /// A byte changed in that page, and the offset of the field that isn't lawful then.
-const BODY_DAMAGES: [(usize, u8, u32); 15] = [
+const ONE_DAMAGES: [(usize, u8, u32); 15] = [
     (0, 0, 0),
-    (0, 2, 0),
+    (0, 2, 20),
+    (0, 3, 16),
+    (0, 4, 0),
     (1, 1, 1),
     (15, 1, 15),
-    (20, 1, 20),
-    (23, 1, 20),
-    (24, 1, 24),
-    (27, 1, 24),
+    (20, 0, 20),
+    (20, 2, 28),
     (28, 1, 28),
     (31, 1, 28),
     (37, 1, 37),
@@ -62,10 +74,27 @@ const BODY_DAMAGES: [(usize, u8, u32); 15] = [
     (16_383, 1, 16_383),
 ];
 
+/// A page of records up to its third slot, with the cores 1 and 2 of one cluster.
+const TWO: [u8; 50] = [
+    1, 0, 0, 0, 0, 0, 0, 0, 0, 0, 0, 0, 0, 0, 0, 0, 1, 0, 0, 0, 2, 0, 0, 0, 0, 0, 0, 0, 1, 0, 0, 0,
+    0, 2, 0, 0, 0, 2, 0, 0, 0, 0, 0, 0, 0, 1, 0, 0, 0, 1,
+];
+
+/// A byte changed in that page, and the offset of the field that isn't lawful then.
+const TWO_DAMAGES: [(usize, u8, u32); 6] = [
+    (16, 0, 20),
+    (37, 1, 45),
+    (41, 1, 41),
+    (44, 1, 41),
+    (45, 0, 45),
+    (45, 3, 45),
+];
+
 /// One coordinate, under which a page has 962 slots.
-fn one_byte() -> Params
+pub(crate) fn one_byte() -> Params
     ensures metric { result.metric ≡ MetricKind.L1 }
     ensures dim { result.dim ≡ 1 }
+    ensures minpts { result.minpts ≡ 2 }
 {
     Params {
         metric: MetricKind::L1,
@@ -90,14 +119,14 @@ fn nine_bits() -> Params
     }
 }
 
-/// The head page by hand.
-fn first_head(alloc: Global) -> Result<Page, AllocError> {
+/// The head page of a new store by hand.
+fn new_head(alloc: Global) -> Result<Page, AllocError> {
     let head = Head {
-        pages: 3,
-        version: 0,
+        pages: 2,
+        version: 1,
         params: one_byte(),
-        batches: 1,
-        count: 1,
+        batches: 0,
+        count: 0,
         root: 0,
         height: 0,
     };
@@ -106,7 +135,23 @@ fn first_head(alloc: Global) -> Result<Page, AllocError> {
     Ok(page)
 }
 
-/// Writes a record of one byte into its place.
+/// The head page of a store with one record by hand.
+fn first_head(alloc: Global) -> Result<Page, AllocError> {
+    let head = Head {
+        pages: 4,
+        version: 1,
+        params: one_byte(),
+        batches: 1,
+        count: 1,
+        root: 192,
+        height: 1,
+    };
+    let mut page = Page::zeros(alloc)?;
+    write_head(&head, &mut page);
+    Ok(page)
+}
+
+/// Writes a core of one byte and the label 1 into its place.
 fn put(
     alloc: Global,
     place: usize,
@@ -120,30 +165,47 @@ fn put(
     let vector = Vector::from_slice(alloc, &[byte])?;
     let slot = SlotView {
         number,
-        count: 0,
+        count: 2,
         anchor: 0,
-        label: 0,
+        label: 1,
         vector: &vector,
     };
     write_slot(&one_byte(), place, slot, page);
     Ok(())
 }
 
-/// A page of records by hand: the record 3 in the first slot.
-fn first_body(alloc: Global) -> Result<Page, AllocError> {
+/// A page of records by hand: the record 3, which is noise, in the first slot.
+fn one_record(alloc: Global) -> Result<Page, AllocError> {
+    let vector = Vector::from_slice(alloc, &[9])?;
+    let slot = SlotView {
+        number: 3,
+        count: 1,
+        anchor: 0,
+        label: 0,
+        vector: &vector,
+    };
     let mut page = Page::zeros(alloc)?;
-    clear_body(&mut page);
-    put(alloc, 0, 3, 9, &mut page)?;
+    clear_slots(&mut page);
+    write_slot(&one_byte(), 0, slot, &mut page);
+    Ok(page)
+}
+
+/// A page of records by hand: two cores.
+fn two_records(alloc: Global) -> Result<Page, AllocError> {
+    let mut page = Page::zeros(alloc)?;
+    clear_slots(&mut page);
+    put(alloc, 0, 1, 0, &mut page)?;
+    put(alloc, 1, 2, 1, &mut page)?;
     Ok(page)
 }
 
 /// Whether a page begins with these bytes, and is zero behind them.
-fn is_only(page: &[u8], front: &[u8]) -> bool {
+pub(crate) fn is_only(page: &[u8], front: &[u8]) -> bool {
     page.starts_with(front) && page.iter().skip(front.len()).all(|byte| *byte == 0)
 }
 
 /// Changes one byte of a page, and gives the one before.
-fn exchange(page: &mut Page, at: usize, byte: u8) -> u8 {
+pub(crate) fn exchange(page: &mut Page, at: usize, byte: u8) -> u8 {
     if at >= page.as_slice().len() {
         return byte;
     }
@@ -174,6 +236,28 @@ fn body_fault(
     fault
 }
 
+/// The first change of a head page after which another offset is named than the one that is due.
+fn head_missed(page: &mut Page, damages: &[(usize, u8, u32)]) -> Option<usize> {
+    for (at, byte, offset) in damages {
+        let due = LayoutFault::Damaged { offset: *offset };
+        if head_fault(page, *at, *byte) != Some(due) {
+            return Some(*at);
+        }
+    }
+    None
+}
+
+/// The first change of a body page after which another offset is named than the one that is due.
+fn body_missed(alloc: Global, page: &mut Page, damages: &[(usize, u8, u32)]) -> Option<usize> {
+    for (at, byte, offset) in damages {
+        let due = LayoutFault::Damaged { offset: *offset };
+        if body_fault(alloc, &one_byte(), page, *at, *byte) != Some(due) {
+            return Some(*at);
+        }
+    }
+    None
+}
+
 /// Whether a head page is read, and written as the same bytes.
 fn head_again(alloc: Global, page: &Page) -> Result<bool, AllocError> {
     let mut other = Page::zeros(alloc)?;
@@ -196,16 +280,23 @@ fn body_again(alloc: Global, params: &Params, page: &Page) -> Result<Option<usiz
     }
 }
 
-/// How many slots have a record.
+/// How many slots are used, or how many entries there are.
 fn used(body: &Body) -> usize {
-    let Body::Slots(rows) = body;
-    rows.as_slice().iter().filter(|row| row.is_some()).count()
+    match body {
+        Body::Slots(rows) => rows.as_slice().iter().filter(|row| row.is_some()).count(),
+        Body::Leaves(leaves) => leaves
+            .as_slice()
+            .iter()
+            .filter(|rows| rows.len() > 0)
+            .count(),
+        Body::Inner(rows) => rows.len(),
+    }
 }
 
 /// A page with a record in each place but one.
 fn filled(alloc: Global, hole: usize) -> Result<Page, AllocError> {
     let mut page = Page::zeros(alloc)?;
-    clear_body(&mut page);
+    clear_slots(&mut page);
     for place in 0..962 {
         if place != hole {
             put(alloc, place, place as u32 + 1, 7, &mut page)?;
@@ -217,14 +308,14 @@ fn filled(alloc: Global, hole: usize) -> Result<Page, AllocError> {
 #[test]
 fn heads_by_hand(rt: HostRuntime) -> Result<(), Fail> {
     let alloc = rt.alloc();
+    let mut new = new_head(alloc)?;
+    assert!(rt; is_only(new.as_slice(), &NEW));
+    assert!(rt; head_missed(&mut new, &NEW_DAMAGES) == None);
     let mut page = first_head(alloc)?;
     assert!(rt; is_only(page.as_slice(), &HEAD));
+    assert!(rt; head_missed(&mut page, &HEAD_DAMAGES) == None);
     assert!(rt; head_again(alloc, &page)?);
-    for (at, byte, offset) in HEAD_DAMAGES {
-        let fault = head_fault(&mut page, at, byte);
-        assert!(rt; fault == Some(LayoutFault::Damaged { offset }), "byte {at}");
-    }
-    for version in [1, 2, 7] {
+    for version in [0, 2, 7] {
         let fault = head_fault(&mut page, 4, version);
         assert!(rt; fault == Some(LayoutFault::Foreign), "version {version}");
     }
@@ -232,15 +323,16 @@ fn heads_by_hand(rt: HostRuntime) -> Result<(), Fail> {
 }
 
 #[test]
-fn bodies_by_hand(rt: HostRuntime) -> Result<(), Fail> {
+fn records_by_hand(rt: HostRuntime) -> Result<(), Fail> {
     let alloc = rt.alloc();
-    let params = one_byte();
-    let mut page = first_body(alloc)?;
-    assert!(rt; is_only(page.as_slice(), &BODY));
-    for (at, byte, offset) in BODY_DAMAGES {
-        let fault = body_fault(alloc, &params, &mut page, at, byte);
-        assert!(rt; fault == Some(LayoutFault::Damaged { offset }), "byte {at}");
-    }
+    let mut one = one_record(alloc)?;
+    assert!(rt; is_only(one.as_slice(), &ONE));
+    assert!(rt; body_missed(alloc, &mut one, &ONE_DAMAGES) == None);
+    // A record that is no core may have any anchor.
+    assert!(rt; body_fault(alloc, &one_byte(), &mut one, 27, 255) == None);
+    let mut two = two_records(alloc)?;
+    assert!(rt; is_only(two.as_slice(), &TWO));
+    assert!(rt; body_missed(alloc, &mut two, &TWO_DAMAGES) == None);
     Ok(())
 }
 
@@ -249,7 +341,7 @@ fn places(rt: HostRuntime) -> Result<(), Fail> {
     let alloc = rt.alloc();
     let params = one_byte();
     let mut none = Page::zeros(alloc)?;
-    clear_body(&mut none);
+    clear_slots(&mut none);
     assert!(rt; body_again(alloc, &params, &none)? == Some(0));
     // No place has this number, so no slot is left free.
     let all = filled(alloc, 962)?;
@@ -259,14 +351,26 @@ fn places(rt: HostRuntime) -> Result<(), Fail> {
     Ok(())
 }
 
+/// Pages of the other kinds are read by their first byte, and written as the same bytes.
+#[test]
+fn kinds(rt: HostRuntime) -> Result<(), Fail> {
+    let alloc = rt.alloc();
+    let leaves = first_leaves(alloc)?;
+    assert!(rt; body_again(alloc, &one_byte(), &leaves)? == Some(1));
+    let inner = first_inner(alloc)?;
+    assert!(rt; body_again(alloc, &one_byte(), &inner)? == Some(2));
+    Ok(())
+}
+
 /// The last bits of a vector of nine bits are charged to its last byte.
 #[test]
 fn last_bits(rt: HostRuntime) -> Result<(), Fail> {
     let alloc = rt.alloc();
     let params = nine_bits();
     let mut page = Page::zeros(alloc)?;
-    clear_body(&mut page);
+    clear_slots(&mut page);
     exchange(&mut page, 16, 1);
+    exchange(&mut page, 20, 1);
     exchange(&mut page, 32, 255);
     for (byte, fault) in [
         (0b1000_0000, None),

@@ -1,5 +1,5 @@
 use Rattle.std.proofs.Common.{arith}
-use Rattle.page_layout.specs.Bodies.{lent}
+use Rattle.page_layout.specs.Slots.{lent}
 use Rattle.page_layout.proofs.SlotLaws.{slot_put}
 use Rattle.page_layout.proofs.slot.put_slot.Goals as goal
 

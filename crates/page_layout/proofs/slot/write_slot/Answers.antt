@@ -1,5 +1,5 @@
 use Rattle.page_layout.specs.Heads.{values_of}
-use Rattle.page_layout.specs.Bodies.{lent}
+use Rattle.page_layout.specs.Slots.{lent}
 use Rattle.page_layout.proofs.SlotLaws.{slot_put_written}
 use Rattle.page_layout.proofs.slot.write_slot.Goals as goal
 

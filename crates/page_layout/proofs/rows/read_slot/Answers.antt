@@ -1,7 +1,7 @@
 use Rattle.std.proofs.Common.{◌≡◌, ◌∙◌, sym, arith, rules}
 use Rattle.page_layout.specs.Heads.{values_of}
 use Rattle.page_layout.proofs.SlotReads.{free_said}
-use Rattle.page_layout.proofs.body.read_slot.Goals as goal
+use Rattle.page_layout.proofs.rows.read_slot.Goals as goal
 
 pub returns-in-None : goal.returns-in-None
 returns-in-None c =

@@ -3,10 +3,10 @@ use Rattle.std.proofs.lemmas.Result.{err_from_is_err_and}
 use Rattle.vec_record.specs.Limits.{width_of}
 use Rattle.page_layout.specs.Fields.{IsWhy}
 use Rattle.page_layout.specs.Heads.{Values, values_of}
-use Rattle.page_layout.specs.Bodies.{slots_in_page, slot_at}
+use Rattle.page_layout.specs.Slots.{slots_in_page, slot_at}
 use Rattle.page_layout.specs.Steps.{slot_of}
-use Rattle.page_layout.proofs.BodyLaws.{one_more, one_bad}
-use Rattle.page_layout.proofs.body.read_slots.Goals as goal
+use Rattle.page_layout.proofs.RowLaws.{one_more, one_bad}
+use Rattle.page_layout.proofs.rows.read_slots.Goals as goal
 
 pub returns-in_err-row : goal.returns-in_err-row
 returns-in_err-row c =

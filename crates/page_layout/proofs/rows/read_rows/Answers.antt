@@ -3,10 +3,10 @@ use Rattle.std.proofs.lemmas.Result.{err_from_is_err_and}
 use Rattle.vec_record.specs.Limits.{width_of}
 use Rattle.page_layout.specs.Fields.{zero_fields, first_bad}
 use Rattle.page_layout.specs.Heads.{Values, values_of}
-use Rattle.page_layout.specs.Bodies.{slots_in_page, slot_at, slots_fields, rows_in}
+use Rattle.page_layout.specs.Slots.{slots_in_page, slot_at, slots_fields, rows_in}
 use Rattle.page_layout.proofs.Places.{bytes_by_index, said_ok}
-use Rattle.page_layout.proofs.BodyLaws.{kind_bad, front_bad, slots_why, end_said, body_from}
-use Rattle.page_layout.proofs.body.read_rows.Goals as goal
+use Rattle.page_layout.proofs.RowLaws.{kind_bad, front_bad, slots_why, end_said, record_from}
+use Rattle.page_layout.proofs.rows.read_rows.Goals as goal
 
 -- the zeros behind the slots, at a width that was computed
 end_is : (width n : ℕ) (page : List ℕ) → n ≡ width
@@ -40,4 +40,4 @@ returns-clause-rows c =
 
 pub returns-clause-lawful : goal.returns-clause-lawful
 returns-clause-lawful c =
-    (body_from (values_of c.args.params.now) c.args.page.now c.in_ok-rows.rows (bytes_by_index c.args.page.now (λ i. omega (arith, c.type_inv.page i))) c.requires (returns-clause-rows c)).0
+    (record_from (values_of c.args.params.now) c.args.page.now c.in_ok-rows.rows (bytes_by_index c.args.page.now (λ i. omega (arith, c.type_inv.page i))) c.requires (returns-clause-rows c)).0
