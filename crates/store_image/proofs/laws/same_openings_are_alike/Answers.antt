@@ -1,5 +1,0 @@
-use Rattle.store_image.proofs.Contents.{same_openings}
-use Rattle.store_image.proofs.laws.same_openings_are_alike.Goals as goal
-
-pub returns : goal.returns
-returns c = same_openings

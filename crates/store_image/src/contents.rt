@@ -1,0 +1,1 @@
+//! Body pages taken apart while they are read.
