@@ -33,8 +33,7 @@ impl<M: Metric> Clusters<M> {
 
     /// Each number with its mark, rising.
     pub fn marks(&self, records: &Records) -> Result<Marks, AllocError>
-        requires { Stand M.dist records.now self.now }
-        ensures { IfOk result (λ marks. marks
+        ensures { Stand M.dist records.now self.now → IfOk result (λ marks. marks
             ≡ marks_in M.dist self.now records.now.vectors) }
     {
         list_marks(self.alloc, &self.counts, &self.labels, records)
@@ -42,8 +41,7 @@ impl<M: Metric> Clusters<M> {
 
     /// The cores and borders with a label, by rising number; `None` exactly where no core has it.
     pub fn members(&self, records: &Records, label: Number) -> Result<Option<Marks>, AllocError>
-        requires { Stand M.dist records.now self.now }
-        ensures { IfOk result (λ members. members
+        ensures { Stand M.dist records.now self.now → IfOk result (λ members. members
             ≡ members_of label (marks_in M.dist self.now records.now.vectors)) }
     {
         if self.labels.members(label).is_none() {
@@ -56,8 +54,8 @@ impl<M: Metric> Clusters<M> {
     /// How many records there are, how many of each kind, and how many clusters, in one pass. It
     /// takes no memory.
     pub fn summary(&self, records: &Records) -> Summary
-        requires { Stand M.dist records.now self.now }
-        ensures { result ≡ summary_of (marks_in M.dist self.now records.now.vectors) }
+        ensures { Stand M.dist records.now self.now
+            → result ≡ summary_of (marks_in M.dist self.now records.now.vectors) }
     {
         count_marks(&self.counts, &self.labels, records)
     }

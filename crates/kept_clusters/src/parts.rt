@@ -1,6 +1,6 @@
 //! Clusters as their parts, which a store keeps in pages.
 
-ghost use Rattle.std.specs.Prelude.{◌≡◌, length, IfSome};
+ghost use Rattle.std.specs.Prelude.{◌≡◌, ℕ, List, length, IfSome};
 ghost use Rattle.vec_record.specs.Held.{Held};
 ghost use Rattle.mtree_node.specs.Preorder.{size};
 ghost use Rattle.kept_clusters.specs.Kept.{Fit, Stand, with_tags};
@@ -61,8 +61,8 @@ impl<M: Metric> Clusters<M> {
             (λ n. length tags.now ≡ size self.old.tree.height n) }
         ensures tagged { self.new ≡ with_tags tags.now self.old }
         ensures fits { (records : Held) → Fit records self.old → Fit records self.new }
-        ensures stands { (records : Held)
-            → Stand M.dist records self.old → Stand M.dist records self.new }
+        ensures stands { (dist : List ℕ → List ℕ → ℕ) (records : Held)
+            → Stand dist records self.old → Stand dist records self.new }
     {
         self.index.retag(tags);
     }

@@ -10,4 +10,4 @@ returns g c =
     let dist = g.M.Metric.dist in
     let records = c.args.records.now in
     let P : Kept → Type 0 = λ k. Stand dist records k → IfOk c.list_marks.result (λ (marks : Listed). marks ≡ marks_in dist k records.vectors) in
-    subst P c.self.view_is (λ stands. IfOk-weaker c.list_marks.result _ _ (λ marks is. is ∙ marks_are stands) c.list_marks.ensures) c.requires
+    subst P c.self.view_is (λ stands. IfOk-weaker c.list_marks.result _ _ (λ marks is. is ∙ marks_are stands) c.list_marks.ensures)

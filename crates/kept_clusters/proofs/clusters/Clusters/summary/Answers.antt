@@ -9,4 +9,4 @@ returns g c =
     let dist = g.M.Metric.dist in
     let records = c.args.records.now in
     let P : Kept → Type 0 = λ k. Stand dist records k → c.count_marks.result ≡ summary_of (marks_in dist k records.vectors) in
-    subst P c.self.view_is (λ stands. c.count_marks.ensures ∙ ap summary_of (marks_are stands)) c.requires
+    subst P c.self.view_is (λ stands. c.count_marks.ensures ∙ ap summary_of (marks_are stands))
