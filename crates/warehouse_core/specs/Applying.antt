@@ -1,20 +1,21 @@
 -- What one batch does to a warehouse and to its site.
-use Rattle.std.specs.Prelude.{◌≡◌, ◌⊎◌, ℕ, ◌+◌, ◌++◌, Bool, true, false, List, [], length, drop, Result, Ok, Err, IfErr}
+use Rattle.std.specs.Prelude.{◌≡◌, ◌⊎◌, ℕ, ◌+◌, ◌++◌, Bool, true, false, List, [], length, Result, Ok, Err, IfErr}
 use Rattle.vec_record.specs.declared.change.Change.{Change}
 use Rattle.vec_record.specs.declared.event.Event.{Event}
 use Rattle.site_disk.specs.State.{SiteState, Safe}
 use Rattle.vec_record.specs.Held.{Rows}
-use Rattle.page_layout.specs.Heads.{Values}
-use Rattle.store_image.specs.declared.fault.StoreFault.{StoreFault}
-use Rattle.store_image.specs.Images.{Image}
-use Rattle.store_image.specs.Loading.{load_of}
-use Rattle.store_image.specs.Placing.{saved_pages}
-use Rattle.store_image.specs.Stores.{IsStore}
+use Rattle.page_layout.specs.Heads.{Values, HeadValue}
+use Rattle.mtree_index.specs.Plain.{PlainTree}
+use Rattle.kept_clusters.specs.Kept.{Kept, with_tags}
+use Rattle.stored_tree.specs.Shapes.{with_tags as tree_with_tags}
+use Rattle.page_layout.specs.declared.body.Body.{Body}
+use Rattle.store_image.specs.Placing.{saved_pages, saved_laid, ArePagesOf}
+use Rattle.store_image.specs.Stores.{IsStore, AreDueIn}
 use Rattle.warehouse_core.specs.declared.refusal.Refusal.{Refusal}
 use Rattle.warehouse_core.specs.declared.refusal.Refusal.TheVariants.{Malformed, WrongLength, Repeated, Unknown, Full, TooManyRecords, BatchesUsedUp, SiteFault, Memory}
 use Rattle.warehouse_core.specs.Batches.{outcome, rows_after, events_of}
 use Rattle.warehouse_core.specs.Receipts.{receipt_text}
-use Rattle.warehouse_core.specs.States.{State, LoadsAs}
+use Rattle.warehouse_core.specs.States.{State, IsClustered, LoadsAs}
 
 -- whether a refusal has a number: only faults of the site and want of memory have none
 abbrev pub is_numbered : Refusal → Bool
@@ -50,16 +51,18 @@ DueAreNumbered =
 abbrev pub IsRefusedBy : Refusal → Result Unit Refusal → Type 0
 IsRefusedBy e result = (result ≡ Err e) ⊎ (result ≡ Err Memory)
 
--- the pages that the rules of placing give where these records follow a list of pages; a stored list always loads
-abbrev pub pages_from : ℕ → Result Image StoreFault → Rows → List (List ℕ)
-pages_from body (Ok image) rows = saved_pages body image.head image.places rows
-pages_from body (Err fault) rows = []
+-- The pages are those that the rules of placing give where these records, and what was kept of their clusters before the
+-- save, follow the pages of another warehouse; the save gave the nodes of the tree the tags of their places.
+pub record IsSavedAs (before : Kept) (w next : State) : Type 0 where
+  pub head : HeadValue
+  pub bodies : List Body
+  pub were : ArePagesOf head bodies w.pages
+  pub pages : next.pages ≡ saved_pages head bodies next.rows before
+  pub kept : next.kept ≡ with_tags (saved_laid head.values bodies next.rows before).refs before
 
-abbrev pub pages_after : List (List ℕ) → Rows → List (List ℕ)
-pages_after pages rows = pages_from (length (drop 1 pages)) (load_of pages) rows
-
--- An accepted batch: its records, one batch more, and the receipt behind the text; the pages are those of the rules of
--- placing, and load as the new records.
+-- An accepted batch: its records, one batch more, and pages by the rules of placing. Where the clusters stood for the
+-- records, they stand for the new ones, and the receipt stands behind the text; and where they stand, the pages load as
+-- the new records, with the lines that are due.
 pub record Accepts (body : List ℕ) (w next : State) (text more : List ℕ) : Type 0 where
   pub changes : List Change
   pub accepted : due w body ≡ Ok changes
@@ -68,9 +71,17 @@ pub record Accepts (body : List ℕ) (w next : State) (text more : List ℕ) : T
   pub batches : next.batches ≡ w.batches + 1
   pub stored : next.stored ≡ true
   pub failed : next.failed ≡ false
-  pub receipt : more ≡ text ++ receipt_text (w.batches + 1) changes (events_of w.values w.rows changes)
-  pub pages : next.pages ≡ pages_after w.pages next.rows
-  pub loads : LoadsAs next.pages next.values next.rows next.batches
+  pub before : Kept
+  pub pages : IsSavedAs before w next
+  pub clustered : IsClustered w → IsClustered next
+  pub receipt : IsClustered w
+      → more ≡ text ++ receipt_text (w.batches + 1) changes (events_of w.values w.rows changes)
+  pub loads : IsClustered next → LoadsAs next.pages next.values next.rows next.batches
+  pub due_are : IsClustered next → AreDueIn next.pages
+
+-- a tree is another one with other tags
+abbrev pub IsTagged : PlainTree → PlainTree → Type 0
+IsTagged before tree = (tags : List ℕ) × (tree ≡ tree_with_tags tags before)
 
 -- the store before the batch, or, where it is accepted, the one after it
 abbrev pub IsBefore : State → List ℕ → Type 0

@@ -6,12 +6,11 @@ use Rattle.vec_record.specs.Limits.{width_of}
 use Rattle.vec_record.specs.declared.kind.MetricKind.{MetricKind}
 use Rattle.vec_record.specs.declared.change.Change.{Change}
 use Rattle.vec_record.specs.declared.change.Change.TheVariants.{Insert, Delete}
-use Rattle.kept_clusters.specs.Kept.{Kept, Stand}
 use Rattle.page_layout.specs.Heads.{Values, plain}
 use Rattle.store_image.specs.declared.loaded.Loaded.{Loaded}
-use Rattle.store_image.specs.Images.{image_of}
+use Rattle.store_image.specs.Images.{image_with}
 use Rattle.store_image.specs.Loading.{load_of}
-use Rattle.store_image.specs.Placing.{AreAt, CanStand}
+use Rattle.store_image.specs.Placing.{CanStand, IsPaged, IsKept}
 use Rattle.vec_record.specs.Held as held
 use Rattle.site_disk.specs.State.{SiteState, Safe}
 use Rattle.page_gate.specs.Gate.{opening, Opens}
@@ -19,18 +18,18 @@ use Rattle.page_gate.specs.Promises.{Holds}
 use Rattle.store_image.specs.Stores.{IsStore}
 use Rattle.warehouse_core.specs.declared.refusal.Refusal.{Refusal}
 use Rattle.warehouse_core.specs.declared.refusal.Refusal.TheVariants.{Memory}
-use Rattle.warehouse_core.specs.States.{State}
+use Rattle.warehouse_core.specs.States.{State, StandBy}
 
--- a warehouse with this store in memory, these pages and these clusters
-abbrev pub state_of : Loaded → List (List ℕ) → Bool → Bool → Kept → State
-state_of s pages stored failed k = record {
+-- a warehouse with this store in memory and these pages
+abbrev pub state_of : Loaded → List (List ℕ) → Bool → Bool → State
+state_of s pages stored failed = record {
   values = (plain s.head).values;
   pages = pages;
   rows = s.records.vectors;
   batches = s.head.batches;
   stored = stored;
   failed = failed;
-  tree = k.tree;
+  kept = s.clusters;
 }
 
 -- records whose numbers and vectors a store with these parameters can hold
@@ -43,30 +42,22 @@ pub record CanHold (v : Values) (records : held.Held) : Type 0 where
   pub held : AreHeld v records
   pub few : map.len records.vectors ≤ v.cap
 
--- clusters by the parameters, which stand for the records
-pub record StandBy (dist : List ℕ → List ℕ → ℕ) (v : Values) (records : held.Held) (k : Kept) : Type 0 where
-  pub eps : k.eps ≡ v.eps
-  pub minpts : k.counts.minpts ≡ v.minpts
-  pub stand : Stand dist records k
-
 -- a change that can apply: an absent number and room for one more, or a number that is there
 abbrev pub CanFollow : ℕ → held.Rows → Change → Type 0
 CanFollow cap rows (Insert n v) = (map.get rows n ≡ None) × (map.len rows < cap)
 CanFollow cap rows (Delete n) = IsSome (map.get rows n)
 
--- the pages are those of the store
-pub record IsPaged (s : Loaded) (pages : List (List ℕ)) : Type 0 where
-  pub at : AreAt (plain s.head) s.places pages
-  pub loads : load_of pages ≡ Ok (image_of s)
-
--- the metric is that of the parameters, the clusters stand for the records, and where there is a store it has the pages
+-- the metric is that of the parameters, the clusters fit the records, and where there is a store it has the pages, which
+-- load as it where the clusters stand for the records
 pub record Stands
     (dist : List ℕ → List ℕ → ℕ) (kind : MetricKind) (stored : Bool) (s : Loaded)
-    (pages : List (List ℕ)) (k : Kept) : Type 0 where
-  pub paged : stored ≡ true → IsPaged s pages
+    (pages : List (List ℕ)) : Type 0 where
+  pub paged : stored ≡ true → IsPaged (plain s.head) s.places pages
+  pub loads : stored ≡ true → StandBy dist (plain s.head).values s.records s.clusters
+      → load_of pages ≡ Ok (image_with (plain s.head) s.records s.clusters)
   pub kind_is : (plain s.head).values.metric ≡ kind
   pub holds : CanHold (plain s.head).values s.records
-  pub clusters : StandBy dist (plain s.head).values s.records k
+  pub kept : IsKept (plain s.head).values s.records s.clusters
 
 -- Nothing is said, and each image, at each moment, has the old pages or is a store with what is saved; want of memory
 -- comes before the first write, and after Ok the only image has the new pages.

@@ -8,7 +8,6 @@
 #![tactic(auto)]
 
 mod changing;
-mod clustering;
 mod copying;
 mod judging;
 pub mod laws;

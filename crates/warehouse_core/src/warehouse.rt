@@ -1,6 +1,6 @@
 //! The warehouse.
 
-ghost use Rattle.std.specs.Prelude.{◌≡◌, ◌≤◌, ◌<◌, ◌⊎◌, ℕ, List, Bool, true, false, [], ◌∷◌, ◌++◌};
+ghost use Rattle.std.specs.Prelude.{◌≡◌, ◌≤◌, ◌<◌, ◌⊎◌, ◌↔◌, ℕ, List, Bool, true, false, [], ◌∷◌, ◌++◌};
 ghost use Rattle.std.specs.Prelude.{◌+◌, ◌*◌};
 ghost use Rattle.std.specs.Prelude.{Ok, Err, None, Some, length, IsTrue, IsOk, IsErr, IfOk};
 ghost use Rattle.std.specs.Prelude.{OnOk, OnErr};
@@ -11,7 +11,8 @@ ghost use Rattle.std.specs.List.{AllByRecursion};
 ghost use Rattle.std.specs.FinMap as map;
 ghost use Rattle.batch_text.specs.After.{after};
 ghost use Rattle.batch_text.specs.Batch.{IsChangeOf, IsSpelledChange};
-ghost use Rattle.store_image.specs.Loading.{load_of, params_in_pages, Fails};
+ghost use Rattle.store_image.specs.Loading.{load_of, params_in_pages, count_said, Fails};
+ghost use Rattle.store_image.specs.Stores.{AreDueIn};
 ghost use Rattle.vec_record.specs.Limits.{width_of};
 ghost use Rattle.page_layout.specs.Heads.{Values, values_of};
 ghost use Rattle.event_feed.specs.Meanings.{meanings, told_all};
@@ -20,14 +21,13 @@ ghost use Rattle.mtree_index.specs.Tree.{query_cost};
 ghost use Rattle.warehouse_core.specs.Batches.{density_by, events_of, marks_on, rows_after};
 ghost use Rattle.warehouse_core.specs.Costs.{ArePaid, tree_after_all};
 ghost use Rattle.warehouse_core.specs.Work.{work_of_all};
-ghost use Rattle.warehouse_core.specs.States.{State, LoadsAs, held_in};
+ghost use Rattle.warehouse_core.specs.States.{State, IsClustered, LoadsAs, held_in};
 ghost use Rattle.cluster_report.specs.Counts.{summary_of};
 ghost use Rattle.warehouse_core.specs.Queries.{mark_on, members_of, near_on};
 ghost use Rattle.warehouse_core.specs.Applying.{Accepts, IsRefusedBy, Steps as BatchSteps, due};
-ghost use Rattle.warehouse_core.specs.Applying.{events_due, is_numbered};
+ghost use Rattle.warehouse_core.specs.Applying.{events_due, is_numbered, IsTagged};
 
 use crate::changing::apply_changes;
-use crate::clustering::cluster;
 use crate::copying::{append_events, copy_changes};
 use crate::judging::judge;
 use crate::receipt::{count_deletions, count_insertions, receipt};
@@ -35,24 +35,24 @@ use crate::refusal::Refusal;
 use crate::saving::save;
 use cluster_report::Summary;
 use event_feed::{Watcher, WatcherSlots};
-use kept_clusters::Clusters;
 use page_gate::Pages;
 use plain_dbscan::{Mark, Marks};
 use site_disk::Site;
 use std::alloc::{AllocError, Global};
 use std::marker::Model;
 use std::sync::ledger::Ledger;
-use store_image::laws::loads_are_stores;
+use store_image::laws::{due_lines_stand, loads_are_stores};
 use store_image::{Loaded, StoreFault};
 use vec_record::{Bytes, Changes, Events, Metric, Number, Numbers, Params, Records, Steps};
 
-/// Records, their clusters and their store.
+/// Records, their clusters and their store. What it says of marks, clusters and events, and what its
+/// store is at each moment, it says where the clusters stand for the records: they do in a new store,
+/// after each batch over such, and after a load exactly where the lines of the pages are due.
 #[derive(Drop)]
 pub struct Warehouse<M: Metric> {
     alloc: Global,
     pages: Pages,
-    state: Loaded,
-    clusters: Clusters<M>,
+    state: Loaded<M>,
     stored: bool,
     failed: bool,
 }
@@ -67,15 +67,17 @@ impl<M: Metric> Model for Warehouse<M> {
 
     ghost use Rattle.warehouse_core.specs.Inside.{Stands, state_of};
 
-    ghost view = { λ w. state_of w.state w.pages.list w.stored w.failed w.clusters };
+    ghost view = { λ w. state_of w.state w.pages.list w.stored w.failed };
 
     ghost invariant = { λ w. w.failed ≡ false
-        → Stands M.dist M.KIND w.stored w.state w.pages.list w.clusters };
+        → Stands M.dist M.KIND w.stored w.state w.pages.list };
 }
 
 impl<M: Metric> Warehouse<M> {
-    /// A stored warehouse: the records of its pages, with their clusters made anew. A refusal other
-    /// than want of memory is the one that the pages have. The metric is to be that of the store.
+    /// A stored warehouse: the records of its pages and their clusters, as the pages have them. Any
+    /// refusal but want of memory is the one that the pages have. The metric is to be that of the
+    /// store. It computes at most eight distances for each record. The clusters stand for the
+    /// records exactly where the lines of the pages are those that are due.
     pub fn load<L: Ledger>(
         alloc: Global,
         pages: Pages,
@@ -85,14 +87,16 @@ impl<M: Metric> Warehouse<M> {
         ensures loaded { MatchResult result
             (λ w. LoadsAs pages.list w.values w.rows w.batches × (w.pages ≡ pages.list)
             × (w.stored ≡ true) × (w.failed ≡ false)) (λ e. Fails e (load_of pages.list)) }
+        ensures clustered { IfOk result (λ w. AreDueIn pages.list ↔ IsClustered w) }
+        ensures counted { IfOk result (λ w. steps.new ≤ steps.old + 8 * map.len w.rows) }
+        ensures bounded { steps.new ≤ steps.old + 8 * count_said pages.list }
     {
-        let state = store_image::load(alloc, &pages)?;
-        let (state, clusters) = cluster::<M, L>(alloc, state, steps)?;
+        due_lines_stand();
+        let state = store_image::load::<M, L>(alloc, &pages, steps)?;
         Ok(Warehouse {
             alloc,
             pages,
             state,
-            clusters,
             stored: true,
             failed: false,
         })
@@ -106,13 +110,12 @@ impl<M: Metric> Warehouse<M> {
         ensures batches { IfOk result (λ w. w.batches ≡ 0) }
         ensures unstored { IfOk result (λ w. w.stored ≡ false) }
         ensures whole { IfOk result (λ w. w.failed ≡ false) }
+        ensures clustered { IfOk result IsClustered }
     {
-        let width = params.width();
         Ok(Warehouse {
             alloc,
             pages: Pages::new(alloc),
             state: Loaded::new(alloc, &params),
-            clusters: Clusters::new(alloc, width, params.eps, params.minpts),
             stored: false,
             failed: false,
         })
@@ -142,8 +145,8 @@ impl<M: Metric> Warehouse<M> {
         ensures ready { IsTrue T.tells → OnOk result (Holds self.new.pages (T.state site.new)) }
 
         // The feed is told exactly the events of an accepted batch.
-        ensures told { OnOk result (meanings W.says_after feed.new.slots.items
-            ≡ told_all (events_due self.old body.now)
+        ensures told { IsClustered self.old → OnOk result
+            (meanings W.says_after feed.new.slots.items ≡ told_all (events_due self.old body.now)
             (meanings W.says_after feed.old.slots.items)) }
         ensures untold { OnErr result (feed.new ≡ feed.old) }
 
@@ -169,17 +172,18 @@ impl<M: Metric> Warehouse<M> {
         ensures later { T.faults site.old ≤ T.faults site.new }
 
         // What a crash leaves at each moment.
-        ensures moments { IsTrue T.tells
+        ensures moments { IsTrue T.tells → IsClustered self.old
             → BatchSteps body.now result self.old (T.state site.old) (T.state site.new) }
 
         // What an accepted batch may cost, whatever is answered, by the tree and by the records.
-        ensures price { IfOk (due self.old body.now) (λ changes. ArePaid M.most
-            (density M.dist self.old.values.eps self.old.values.minpts) self.old.tree
+        ensures price { IsClustered self.old → IfOk (due self.old body.now) (λ changes. ArePaid
+            M.most (density M.dist self.old.values.eps self.old.values.minpts) self.old.kept.tree
             (held_in self.old) changes steps.old steps.new) }
-        ensures work { IfOk (due self.old body.now) (λ changes. steps.new ≤ steps.old
-            + work_of_all (density_by self.old.values) (held_in self.old) changes) }
-        ensures tree { OnOk result (IfOk (due self.old body.now) (λ changes. self.new.tree
-            ≡ tree_after_all M.dist M.most (held_in self.old) changes self.old.tree)) }
+        ensures work { IsClustered self.old → IfOk (due self.old body.now) (λ changes. steps.new
+            ≤ steps.old + work_of_all (density_by self.old.values) (held_in self.old) changes) }
+        ensures tree { OnOk result (IfOk (due self.old body.now) (λ changes. IsTagged
+            (tree_after_all M.dist M.most (held_in self.old) changes self.old.kept.tree)
+            self.new.kept.tree)) }
     {
         loads_are_stores();
         let params = self.state.head.params;
@@ -216,7 +220,8 @@ impl<M: Metric> Warehouse<M> {
         ensures ok { OnOk result
             ((body : List ℕ) → due self.old body ≡ Ok changes
             → Accepts body self.old self.new out.old out.new) }
-        ensures told { OnOk result (meanings W.says_after feed.new.slots.items
+        ensures told { IsClustered self.old → OnOk result
+            (meanings W.says_after feed.new.slots.items
             ≡ told_all (events_of self.old.values self.old.rows changes)
             (meanings W.says_after feed.old.slots.items)) }
         ensures untold { OnErr result (feed.new ≡ feed.old) }
@@ -228,15 +233,17 @@ impl<M: Metric> Warehouse<M> {
         ensures fault { result ≡ Err Refusal.SiteFault
             → Rose (T.faults site.old) (T.faults site.new) }
         ensures later { T.faults site.old ≤ T.faults site.new }
-        ensures moments { IsTrue T.tells → (body : List ℕ) → due self.old body ≡ Ok changes
+        ensures moments { IsTrue T.tells → IsClustered self.old → (body : List ℕ)
+            → due self.old body ≡ Ok changes
             → BatchSteps body result self.old (T.state site.old) (T.state site.new) }
-        ensures price { ArePaid M.most
-            (density M.dist self.old.values.eps self.old.values.minpts) self.old.tree
+        ensures price { IsClustered self.old → ArePaid M.most
+            (density M.dist self.old.values.eps self.old.values.minpts) self.old.kept.tree
             (held_in self.old) changes steps.old steps.new }
-        ensures work { steps.new ≤ steps.old
+        ensures work { IsClustered self.old → steps.new ≤ steps.old
             + work_of_all (density_by self.old.values) (held_in self.old) changes }
-        ensures tree { OnOk result (self.new.tree
-            ≡ tree_after_all M.dist M.most (held_in self.old) changes self.old.tree) }
+        ensures tree { OnOk result (IsTagged
+            (tree_after_all M.dist M.most (held_in self.old) changes self.old.kept.tree)
+            self.new.kept.tree) }
     {
         loads_are_stores();
         // What is in memory runs ahead of the store until the batch is saved.
@@ -246,7 +253,7 @@ impl<M: Metric> Warehouse<M> {
         let insertions = count_insertions(changes.as_slice());
         let deletions = count_deletions(changes.as_slice());
         let records = &mut self.state.records;
-        let clusters = &mut self.clusters;
+        let clusters = &mut self.state.clusters;
         let events = apply_changes::<M, L>(alloc, &params, records, clusters, changes, steps)?;
         let batch = self.state.head.batches + 1;
         let line = receipt(alloc, batch, insertions, deletions, events.as_slice())?;
@@ -275,26 +282,27 @@ impl<M: Metric> Warehouse<M> {
         ensures values { OnOk result (self.new.values ≡ self.old.values) }
         ensures rows { OnOk result
             (self.new.rows ≡ rows_after self.old.values self.old.rows changes.now) }
-        ensures events { OnOk result (out.new
+        ensures events { IsClustered self.old → OnOk result (out.new
             ≡ out.old ++ events_of self.old.values self.old.rows changes.now) }
+        ensures clustered { IsClustered self.old → OnOk result (IsClustered self.new) }
         ensures batches { OnOk result (self.new.batches ≡ self.old.batches) }
         ensures unstored { self.new.stored ≡ false }
         ensures whole { OnOk result (self.new.failed ≡ false) }
         ensures failed { OnErr result (self.new.failed ≡ true) }
-        ensures price { ArePaid M.most
-            (density M.dist self.old.values.eps self.old.values.minpts) self.old.tree
+        ensures price { IsClustered self.old → ArePaid M.most
+            (density M.dist self.old.values.eps self.old.values.minpts) self.old.kept.tree
             (held_in self.old) changes.now steps.old steps.new }
-        ensures work { steps.new ≤ steps.old
+        ensures work { IsClustered self.old → steps.new ≤ steps.old
             + work_of_all (density_by self.old.values) (held_in self.old) changes.now }
-        ensures tree { OnOk result (self.new.tree
-            ≡ tree_after_all M.dist M.most (held_in self.old) changes.now self.old.tree) }
+        ensures tree { OnOk result (self.new.kept.tree
+            ≡ tree_after_all M.dist M.most (held_in self.old) changes.now self.old.kept.tree) }
     {
         self.failed = true;
         let alloc = self.alloc;
         let params = self.state.head.params;
         let own = copy_changes(alloc, changes.as_slice())?;
         let records = &mut self.state.records;
-        let clusters = &mut self.clusters;
+        let clusters = &mut self.state.clusters;
         let events = apply_changes::<M, L>(alloc, &params, records, clusters, own, steps)?;
         append_events(events.as_slice(), out)?;
         self.failed = false;
@@ -341,26 +349,28 @@ impl<M: Metric> Warehouse<M> {
     /// The mark of a number, by a few look-ups in memory; `None` exactly where the number is absent.
     pub fn mark_of(&self, number: Number) -> Option<Mark>
         requires { self.now.failed ≡ false }
-        ensures { result ≡ mark_on self.now.values self.now.rows number }
+        ensures { IsClustered self.now
+            → result ≡ mark_on self.now.values self.now.rows number }
     {
-        self.clusters.mark_of(number)
+        self.state.clusters.mark_of(number)
     }
 
     /// Each number with its mark, rising.
     pub fn marks(&self) -> Result<Marks, AllocError>
         requires { self.now.failed ≡ false }
-        ensures { IfOk result (λ marks. marks ≡ marks_on self.now.values self.now.rows) }
+        ensures { IsClustered self.now
+            → IfOk result (λ marks. marks ≡ marks_on self.now.values self.now.rows) }
     {
-        self.clusters.marks(&self.state.records)
+        self.state.clusters.marks(&self.state.records)
     }
 
     /// The cores and borders with a label, by rising number; `None` exactly where no core has it.
     pub fn members(&self, label: Number) -> Result<Option<Marks>, AllocError>
         requires { self.now.failed ≡ false }
-        ensures { IfOk result (λ members. members
+        ensures { IsClustered self.now → IfOk result (λ members. members
             ≡ members_of label (marks_on self.now.values self.now.rows)) }
     {
-        self.clusters.members(&self.state.records, label)
+        self.state.clusters.members(&self.state.records, label)
     }
 
     /// Gives in `out`, in place of what it held, the numbers near a record, rising, itself among
@@ -379,17 +389,18 @@ impl<M: Metric> Warehouse<M> {
         ensures err { OnErr result (map.contains_key self.now.rows number ≡ true) }
         ensures kept { OnErr result (out.new ≡ out.old) }
         ensures cost { (v : List ℕ) → map.get self.now.rows number ≡ Some v → steps.new ≤ steps.old
-            + query_cost M.dist self.now.tree v self.now.values.eps }
+            + query_cost M.dist self.now.kept.tree v self.now.values.eps }
         ensures most { steps.new ≤ steps.old + 2 * map.len self.now.rows }
     {
-        self.clusters.near(&self.state.records, number, out, steps)
+        self.state.clusters.near(&self.state.records, number, out, steps)
     }
 
     /// The counts of all marks, in one pass that takes no memory.
     pub fn summary(&self) -> Summary
         requires { self.now.failed ≡ false }
-        ensures { result ≡ summary_of (marks_on self.now.values self.now.rows) }
+        ensures { IsClustered self.now
+            → result ≡ summary_of (marks_on self.now.values self.now.rows) }
     {
-        self.clusters.summary(&self.state.records)
+        self.state.clusters.summary(&self.state.records)
     }
 }
