@@ -4,7 +4,7 @@ ghost use Rattle.std.specs.Prelude.{◌≡◌, []};
 ghost use Rattle.std.specs.FinMap as maps;
 ghost use Rattle.page_layout.specs.Heads.{values_of};
 ghost use Rattle.vec_record.specs.Limits.{width_of};
-ghost use Rattle.kept_clusters.specs.Kept.{nothing_kept};
+ghost use Rattle.kept_clusters.specs.Kept.{nothing_kept, no_records, Stand};
 
 use kept_clusters::Clusters;
 use page_layout::Head;
@@ -37,6 +37,8 @@ impl<M: Metric> Loaded<M> {
         ensures clusters { result.clusters
             ≡ nothing_kept (width_of params.now.metric params.now.dim) params.now.eps
             params.now.minpts }
+        ensures stands { Stand M.dist (no_records (width_of params.now.metric params.now.dim))
+            result.clusters }
     {
         let width = params.width();
         Loaded {

@@ -1,6 +1,6 @@
 //! Which pages a save changes.
 
-ghost use Rattle.std.specs.Prelude.{◌≡◌, ◌≤◌, ◌+◌, length, Ok, IfOk, OnOk, OnErr};
+ghost use Rattle.std.specs.Prelude.{◌≡◌, ◌≤◌, ◌+◌, ℕ, List, length, Ok, IfOk, OnOk, OnErr};
 ghost use Rattle.vec_record.specs.Held.{Held};
 ghost use Rattle.page_layout.specs.Heads.{plain};
 ghost use Rattle.page_gate.specs.Writes.{pairs, written, new_count, IsPlan};
@@ -51,8 +51,8 @@ pub fn plan_save<M: Metric>(
         state.old.clusters)) }
     ensures kept { OnOk result
         (IsKept (plain state.new.head).values state.new.records state.new.clusters) }
-    ensures stands { OnOk result ((records : Held) → Stand M.dist records state.old.clusters
-        → Stand M.dist records state.new.clusters) }
+    ensures stands { OnOk result ((dist : List ℕ → List ℕ → ℕ) (records : Held)
+        → Stand dist records state.old.clusters → Stand dist records state.new.clusters) }
     ensures err { OnErr result (state.new ≡ state.old) }
 {
     Err(AllocError)

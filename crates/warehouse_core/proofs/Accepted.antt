@@ -4,70 +4,72 @@ use Rattle.vec_record.specs.Held.{Held, Rows}
 use Rattle.vec_record.specs.declared.change.Change.{Change}
 use Rattle.vec_record.specs.declared.event.Event.{Event}
 use Rattle.vec_record.specs.declared.kind.MetricKind.{MetricKind}
-use Rattle.kept_clusters.specs.Kept.{Kept}
+use Rattle.kept_clusters.specs.Kept.{Kept, with_tags}
 use Rattle.site_disk.specs.State.{SiteState}
 use Rattle.page_gate.specs.Gate.{opening, Opens}
-use Rattle.page_layout.specs.Heads.{Values, plain}
-use Rattle.store_image.specs.declared.loaded.Loaded.{Loaded}
-use Rattle.store_image.specs.declared.fault.StoreFault.{StoreFault}
-use Rattle.store_image.specs.Images.{Image, image_of}
+use Rattle.page_layout.specs.Heads.{Values}
+use Rattle.store_image.specs.declared.loaded.Places.{Places}
+use Rattle.store_image.specs.Images.{Image}
 use Rattle.store_image.specs.Loading.{load_of}
-use Rattle.store_image.specs.Placing.{AreAt, saved_pages}
-use Rattle.store_image.specs.Stores.{IsStore, LoadsAreStores}
+use Rattle.store_image.specs.Placing.{ArePagesOf, IsPaged, bodies_on, image_on, saved_laid, saved_on}
+use Rattle.store_image.specs.Stores.{AreDueIn, IsStore, LoadsAreStores}
 use Rattle.warehouse_core.specs.declared.refusal.Refusal.{Refusal}
-use Rattle.warehouse_core.specs.Applying.{Accepts, IsAfter, IsBefore, Steps, due, pages_after, pages_from}
+use Rattle.warehouse_core.specs.Applying.{Accepts, IsAfter, IsBefore, IsSavedAs, Steps, due}
 use Rattle.warehouse_core.specs.Batches.{events_of, rows_after}
-use Rattle.warehouse_core.specs.Inside.{CanHold, IsPaged, Saves, StandBy, Stands, state_of}
+use Rattle.warehouse_core.specs.Inside.{Saves, state_of}
 use Rattle.warehouse_core.specs.Receipts.{batch_text, decline_text, growth_text, is_deletion, is_insertion, receipt_text}
-use Rattle.warehouse_core.specs.States.{State}
-use Rattle.warehouse_core.proofs.Moments.{opened_before, weaker}
+use Rattle.warehouse_core.specs.States.{State, IsClustered}
+use Rattle.warehouse_core.proofs.Moments.{is_stored, opened_before, weaker}
 
-module _ (changes : List Change) (was is : Loaded) (before after : List (List ℕ)) (records : Held) (loaded : load_of before ≡ Ok (image_of was))
-    (rows_are : records.vectors ≡ rows_after (plain was.head).values was.records.vectors changes) (pages_are : after ≡ saved_pages (length (drop 1 before)) (plain was.head) was.places records.vectors) (loads : load_of after ≡ Ok (image_of is))
-    (records_are : is.records ≡ records) (values_are : (plain is.head).values ≡ (plain was.head).values) (batches_are : is.head.batches ≡ was.head.batches + 1) where
-  vectors_are : is.records.vectors ≡ records.vectors
+module _ (changes : List Change) (was saved is : Image) (places places' : Places) (before after : List (List ℕ)) (paged : IsPaged was.head places before)
+    (head_is : saved.head ≡ was.head) (rows_are : saved.records.vectors ≡ rows_after was.head.values was.records.vectors changes)
+    (pages_are : after ≡ saved_on was.head before saved.records.vectors saved.kept) (image_is : is ≡ image_on was.head before saved.records saved.kept) where
+  values_are : is.head.values ≡ was.head.values
+  values_are = ap (λ (i : Image). i.head.values) image_is
+
+  records_are : is.records ≡ saved.records
+  records_are = ap (λ (i : Image). i.records) image_is
+
+  vectors_are : is.records.vectors ≡ saved.records.vectors
   vectors_are = ap (λ (h : Held). h.vectors) records_are
 
-  placed_as : after ≡ pages_after before is.records.vectors
-  placed_as =
-      pages_are
-      ∙ (ap (saved_pages (length (drop 1 before)) (plain was.head) was.places) (sym vectors_are) ∙ ap (λ (r : Result Image StoreFault). pages_from (length (drop 1 before)) r is.records.vectors) (sym loaded))
+  batches_are : is.head.batches ≡ was.head.batches + 1
+  batches_are = ap (λ (i : Image). i.head.batches) image_is
 
-  module _ (k k' : Kept) (failed : Bool) (text more : List ℕ) (receipt : more ≡ text ++ receipt_text (was.head.batches + 1) changes (events_of (plain was.head).values was.records.vectors changes)) where
-    taken : (body : List ℕ) → due (state_of was before true failed k) body ≡ Ok changes → Accepts body (state_of was before true failed k) (state_of is after true false k') text more
-    taken body accepted = record {
-      changes = changes;
-      accepted = accepted;
-      values = values_are;
-      rows = vectors_are ∙ rows_are;
-      batches = batches_are;
-      stored = refl;
-      failed = refl;
-      receipt = receipt;
-      pages = placed_as;
-      loads = record { image = image_of is; loads = loads; values_are = refl; rows_are = refl; batches_are = refl };
-    }
+  module _ (stored failed : Bool) (w : State) (view : state_of was before stored failed ≡ w) where
+    placed : IsSavedAs saved.kept w (state_of is after stored false)
+    placed =
+        let P : State → Type 0 = λ x. ArePagesOf was.head (bodies_on was.head before) x.pages in
+        record {
+          head = was.head;
+          bodies = bodies_on was.head before;
+          were = subst P view paged.are;
+          pages = pages_are ∙ ap (λ (rows : Rows). saved_on was.head before rows saved.kept) (sym vectors_are);
+          kept =
+              ap (λ (i : Image). i.kept) image_is
+              ∙ ap (λ (rows : Rows). with_tags (saved_laid was.head.values (bodies_on was.head before) rows saved.kept).refs saved.kept) (sym vectors_are);
+        }
 
-    pub accepts : (stored : Bool) (w : State) (body : List ℕ) → state_of was before stored failed k ≡ w → w.stored ≡ true → due w body ≡ Ok changes → Accepts body w (state_of is after stored false k') text more
-    accepts stored w body view has accepted =
-        let s : stored ≡ true = ap (λ (x : State). x.stored) view ∙ has in
-        let P : State → Type 0 = λ x. due x body ≡ Ok changes → Accepts body x (state_of is after true false k') text more in
-        let whole : state_of was before true failed k ≡ w = ap (λ (b : Bool). state_of was before b failed k) (sym s) ∙ view in
-        let Q : Bool → Type 0 = λ b. Accepts body w (state_of is after b false k') text more in
-        subst Q (sym s) (subst P whole (taken body) accepted)
-
-  -- it stands again
-  pub stands_again : (dist : List ℕ → List ℕ → ℕ) (kind : MetricKind) (stored : Bool) (k : Kept) → (plain was.head).values.metric ≡ kind → AreAt (plain is.head) is.places after → CanHold (plain was.head).values records → StandBy dist (plain was.head).values records k → Stands dist kind stored is after k
-  stands_again dist kind stored k kind_is here holds clusters =
-      let P : Values → Type 0 = λ v. CanHold v is.records in
-      let Q : Held → Type 0 = λ h. CanHold (plain was.head).values h in
-      let R : Values → Type 0 = λ v. StandBy dist v is.records k in
-      let S : Held → Type 0 = λ h. StandBy dist (plain was.head).values h k in
-      record {
-        paged = λ _. record { at = here; loads = loads };
-        kind_is = ap (λ (v : Values). v.metric) values_are ∙ kind_is;
-        holds = subst P (sym values_are) (subst Q (sym records_are) holds);
-        clusters = subst R (sym values_are) (subst S (sym records_are) clusters);
+    module _ (text more : List ℕ) (body : List ℕ) (has : w.stored ≡ true) (accepted : due w body ≡ Ok changes)
+        (clustered : IsClustered w → IsClustered (state_of is after stored false))
+        (receipt : IsClustered w → more ≡ text ++ receipt_text (was.head.batches + 1) changes (events_of was.head.values was.records.vectors changes))
+        (loads : IsClustered (state_of is after stored false) → load_of after ≡ Ok is)
+        (due_are : IsClustered (state_of is after stored false) → AreDueIn after) where
+      pub accepts : Accepts body w (state_of is after stored false) text more
+      accepts = record {
+        changes = changes;
+        accepted = accepted;
+        values = values_are ∙ ap (λ (x : State). x.values) view;
+        rows = vectors_are ∙ rows_are ∙ ap (λ (x : State). rows_after x.values x.rows changes) view;
+        batches = batches_are ∙ ap (λ (x : State). x.batches + 1) view;
+        stored = is_stored was before stored failed w view has;
+        failed = refl;
+        before = saved.kept;
+        pages = placed;
+        clustered = clustered;
+        receipt = λ is. receipt is ∙ ap (λ (x : State). text ++ receipt_text (x.batches + 1) changes (events_of x.values x.rows changes)) view;
+        loads = λ by. record { image = is; loads = loads by; values_are = refl; rows_are = refl; batches_are = refl };
+        due_are = due_are;
       }
 
 -- the receipt of a batch, by its counts
@@ -80,23 +82,23 @@ counted_receipt batch insertions deletions changes events due_events line is ins
     ∙ ap (receipt_text batch changes) evs))
 
 -- the moments of a saving
-module _ (law : LoadsAreStores) (was : Loaded) (before : List (List ℕ)) (k : Kept) (is_paged : IsPaged was before) (changes : List Change) (rows : Rows)
-    (rows_are : rows ≡ rows_after (plain was.head).values was.records.vectors changes) where
-  module _ (after : List (List ℕ)) (result : Result Unit Refusal) (a b : SiteState) (saves : Saves before (plain was.head).values rows (was.head.batches + 1) after result a b) where
-    crossed : (stored failed : Bool) (body : List ℕ) → due (state_of was before stored failed k) body ≡ Ok changes → Steps body result (state_of was before stored failed k) a b
+module _ (law : LoadsAreStores) (was : Image) (before : List (List ℕ)) (loads : load_of before ≡ Ok was) (are_due : AreDueIn before) (changes : List Change) (rows : Rows)
+    (rows_are : rows ≡ rows_after was.head.values was.records.vectors changes) where
+  module _ (after : List (List ℕ)) (result : Result Unit Refusal) (a b : SiteState) (saves : Saves before was.head.values rows (was.head.batches + 1) after result a b) where
+    crossed : (stored failed : Bool) (body : List ℕ) → due (state_of was before stored failed) body ≡ Ok changes → Steps body result (state_of was before stored failed) a b
     crossed stored failed body accepted =
-        let w = state_of was before stored failed k in
-        let R : Rows → Type 0 = λ r. (c : List ℕ) → IsStore (plain was.head).values r (was.head.batches + 1) c → IsAfter body w c in
+        let w = state_of was before stored failed in
+        let R : Rows → Type 0 = λ r. (c : List ℕ) → IsStore was.head.values r (was.head.batches + 1) c → IsAfter body w c in
         let later : R rows = subst R (sym rows_are) (λ c store. record { changes = changes; accepted = accepted; store = store }) in
-        let sooner : (c : List ℕ) → opening c ≡ Opens before → IsBefore w c = λ c opens. opened_before law was before k is_paged stored failed w c refl opens in
-        let either : (c : List ℕ) → (opening c ≡ Opens before) ⊎ IsStore (plain was.head).values rows (was.head.batches + 1) c → IsBefore w c ⊎ IsAfter body w c = λ c e. elim e [ inl x ↦ inl (sooner c x) | inr y ↦ inr (later c y) ] in
+        let sooner : (c : List ℕ) → opening c ≡ Opens before → IsBefore w c = λ c opens. opened_before law was before loads are_due stored failed w c refl opens in
+        let either : (c : List ℕ) → (opening c ≡ Opens before) ⊎ IsStore was.head.values rows (was.head.batches + 1) c → IsBefore w c ⊎ IsAfter body w c = λ c e. elim e [ inl x ↦ inl (sooner c x) | inr y ↦ inr (later c y) ] in
         record {
-          safe = weaker a b (λ s c. (s ≡ a.said) × ((opening c ≡ Opens before) ⊎ IsStore (plain was.head).values rows (was.head.batches + 1) c)) (λ s c. (s ≡ a.said) × (IsBefore w c ⊎ IsAfter body w c)) saves.safe (λ s c m. (m.0, either c m.1));
+          safe = weaker a b (λ s c. (s ≡ a.said) × ((opening c ≡ Opens before) ⊎ IsStore was.head.values rows (was.head.batches + 1) c)) (λ s c. (s ≡ a.said) × (IsBefore w c ⊎ IsAfter body w c)) saves.safe (λ s c m. (m.0, either c m.1));
           said = saves.said;
           unsaved = λ want. weaker a b (λ s c. (s ≡ a.said) × (opening c ≡ Opens before)) (λ s c. (s ≡ a.said) × IsBefore w c) (saves.unsaved want) (λ s c m. (m.0, sooner c m.1));
         }
 
-    pub saved_steps : (stored failed : Bool) (w : State) (body : List ℕ) → state_of was before stored failed k ≡ w → due w body ≡ Ok changes → Steps body result w a b
+    pub saved_steps : (stored failed : Bool) (w : State) (body : List ℕ) → state_of was before stored failed ≡ w → due w body ≡ Ok changes → Steps body result w a b
     saved_steps stored failed w body view accepted =
         let P : State → Type 0 = λ x. due x body ≡ Ok changes → Steps body result x a b in
         subst P view (crossed stored failed body) accepted

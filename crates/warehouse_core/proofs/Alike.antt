@@ -1,13 +1,21 @@
 -- The marks of records depend on the distances of their vectors alone.
-use Rattle.std.proofs.Common.{◌≡◌, ℕ, ◌≤◌, true, false, cond, not, ◌&&◌, ◌||◌, ◌==◌, nat_le, List, [], ◌∷◌, length, find, filter, map, Option, Some, None, refl, ap, subst, ◌∙◌, arith}
+use Rattle.std.proofs.Common.{◌≡◌, ℕ, ◌≤◌, true, false, cond, not, ◌&&◌, ◌||◌, ◌==◌, nat_le, List, [], ◌∷◌, length, find, filter, map, Option, Some, None, refl, sym, ap, subst, ◌∙◌, arith}
 use Rattle.std.specs.List.{AllByRecursion, list_any}
 use Rattle.std.specs.Option.{is_some}
 use Rattle.std.specs.Ordering.{nat_cmp, eq_by_cmp}
+use Rattle.std.specs.FinMap as maps
 use Rattle.std.specs.FinMap.Entries.{find as value_at}
 use Rattle.std.proofs.lemmas.Bool.{and_parts, leb-true}
 use Rattle.std.proofs.lemmas.Bool.Decides.{nat_tests}
 use Rattle.std.proofs.lemmas.Option.{none-some, same_Some}
 use Rattle.vec_record.specs.Distance.{distance_of}
+use Rattle.vec_record.specs.Held.{Held, Rows}
+use Rattle.count_book.specs.Counted.{Counted, row_of}
+use Rattle.label_book.specs.Labels.{Labels}
+use Rattle.update_seed.specs.Books.{StandsFor, row_due, label_due}
+use Rattle.mtree_index.specs.Tree.{contents}
+use Rattle.kept_clusters.specs.Kept.{Kept, Stand, density_in}
+use Rattle.warehouse_core.specs.States.{StandBy}
 use Rattle.vec_record.specs.Limits.{are_within, greatest_dim, is_between, width_of}
 use Rattle.vec_record.specs.Vectors.{IsVector, IsWidth}
 use Rattle.vec_record.specs.declared.kind.MetricKind.{MetricKind}
@@ -43,6 +51,21 @@ module _ (d e : Density) (es : Entries) (near : (a b : ℕ) → is_near d es a b
   marks_alike : marks_of d es ≡ marks_of e es
   marks_alike i = map (λ (a : ℕ). (a, mark_alike a i)) (numbers_of es)
 
+  row_alike : (rows : Rows) (a : ℕ) → row_due d es rows a ≡ row_due e es rows a
+  row_alike rows a i = cond (is_some (maps.get rows a)) (Some (row_of (length (filter (λ b. near a b i) (numbers_of es))) (anchors_alike a i))) None
+
+  label_alike : (a : ℕ) → label_due d es a ≡ label_due e es a
+  label_alike a i = cond (cores_alike i a) (Some (clusters_alike i a)) None
+
+-- what stands by a density stands by one that has the same near
+module _ (d e : Density) (records : Held) (near : (a b : ℕ) → is_near d (maps.entries records.vectors) a b ≡ is_near e (maps.entries records.vectors) a b) (minpts : d.minpts ≡ e.minpts) where
+  stands_alike : (width : ℕ) (contents : Rows) (counts : Counted) (labels : Labels) → StandsFor d width contents records counts labels → StandsFor e width contents records counts labels
+  stands_alike width contents counts labels stands = record {
+    fits = stands.fits;
+    rows = λ a. stands.rows a ∙ row_alike d e (maps.entries records.vectors) near minpts records.vectors a;
+    labels_due = λ a. stands.labels_due a ∙ label_alike d e (maps.entries records.vectors) near minpts a;
+  }
+
 pub same_key : (q k : ℕ) → eq_by_cmp nat_cmp q k ≡ true → k ≡ q
 same_key q k e = grind (arith, nat_tests)
 
@@ -76,6 +99,29 @@ module _ (v : Values) (es : Entries) (dist : List ℕ → List ℕ → ℕ) (all
 
   pub mark_by : (a : ℕ) → mark_of (density dist v.eps v.minpts) es a ≡ mark_of (density_by v) es a
   mark_by = mark_alike (density dist v.eps v.minpts) (density_by v) es is_near_by refl
+
+-- the density of clusters by parameters is that of the parameters
+density_in_is : (dist : List ℕ → List ℕ → ℕ) (v : Values) (k : Kept) → k.eps ≡ v.eps → k.counts.minpts ≡ v.minpts → density_in dist k ≡ density dist v.eps v.minpts
+density_in_is dist v k eps minpts i = density dist (eps i) (minpts i)
+
+-- clusters that stand for records by a distance that is that of the metric stand by the metric, and the other way round
+module _ (v : Values) (records : Held) (k : Kept) (dist : List ℕ → List ℕ → ℕ) (all : AllByRecursion (CanStand v) (maps.entries records.vectors))
+    (law : (a b : List ℕ) → IsVector (width_of v.metric v.dim) a → IsVector (width_of v.metric v.dim) b → dist a b ≡ distance_of v.metric a b) where
+  abbrev For : Density → Type 0
+  For d = StandsFor d k.tree.width (contents k.tree) records k.counts k.labels
+
+  pub stand_by : StandBy dist v records k → StandBy (distance_of v.metric) v records k
+  stand_by by =
+      let here : For (density dist v.eps v.minpts) = subst For (density_in_is dist v k by.eps by.minpts) by.stand in
+      let there : For (density_by v) = stands_alike (density dist v.eps v.minpts) (density_by v) records (is_near_by v (maps.entries records.vectors) dist all law) refl _ _ _ _ here in
+      record { eps = by.eps; minpts = by.minpts; stand = subst For (sym (density_in_is (distance_of v.metric) v k by.eps by.minpts)) there }
+
+  pub stand_under : StandBy (distance_of v.metric) v records k → StandBy dist v records k
+  stand_under by =
+      let here : For (density_by v) = subst For (density_in_is (distance_of v.metric) v k by.eps by.minpts) by.stand in
+      let there : For (density dist v.eps v.minpts) =
+          stands_alike (density_by v) (density dist v.eps v.minpts) records (λ a b. sym (is_near_by v (maps.entries records.vectors) dist all law a b)) refl _ _ _ _ here in
+      record { eps = by.eps; minpts = by.minpts; stand = subst For (sym (density_in_is dist v k by.eps by.minpts)) there }
 
 -- what changes ask about, by two distances that agree on the vectors before and after
 lost_alike : (d e : Density) (after : Entries) → is_core d after ≡ is_core e after → (o : Option ℕ) → is_lost_anchor d after o ≡ is_lost_anchor e after o

@@ -29,7 +29,9 @@ use Rattle.warehouse_core.specs.Batches.{density_by, events_of, marks_on, or_els
 use Rattle.warehouse_core.specs.Costs.{tree_after, tree_after_all, IsPaid, ArePaid}
 use Rattle.warehouse_core.specs.Work.{held_after, work_of, work_of_all}
 use Rattle.plain_dbscan.specs.Marks.{Density, density, Entries}
-use Rattle.warehouse_core.specs.Inside.{AreHeld, CanHold, CanFollow, StandBy}
+use Rattle.store_image.specs.Placing.{IsKept}
+use Rattle.warehouse_core.specs.States.{StandBy}
+use Rattle.warehouse_core.specs.Inside.{AreHeld, CanHold, CanFollow}
 use Rattle.warehouse_core.proofs.Alike.{found_so, same_key}
 
 true_of : (b : Bool) → T b → b ≡ true
@@ -152,19 +154,20 @@ applies place cap rows (Delete n) cs h =
     }
 
 -- The changes that are left apply to the records that stand now, and come to what all changes come to: the records, the
--- events, the tree, and what they may cost.
+-- events, the tree, and what they may cost. Of events and costs it speaks where a premise holds, as do the clusters.
 pub record Goes
-    (dist : List ℕ → List ℕ → ℕ) (most : ℕ → ℕ) (v : Values) (start : Held) (tree : PlainTree) (steps : ℕ) (all : List Change)
+    (S : Type 0) (dist : List ℕ → List ℕ → ℕ) (most : ℕ → ℕ) (v : Values) (start : Held) (tree : PlainTree) (steps : ℕ) (all : List Change)
     (records : Held) (k : Kept) (events : List Event) (now : ℕ) (cs : List Change) : Type 0 where
   pub holds : CanHold v records
-  pub clusters : StandBy dist v records k
+  pub kept : IsKept v records k
+  pub clusters : S → StandBy dist v records k
   pub fit : AllByRecursion (IsChangeOf (width_of v.metric v.dim)) cs
   pub spelled : AllByRecursion (IsSpelledChange v.metric v.dim) cs
   pub rest : (place : ℕ) × (after_from place v.cap records.vectors cs ≡ after v.cap start.vectors all)
-  pub events_are : events ++ events_of v records.vectors cs ≡ events_of v start.vectors all
+  pub events_are : S → events ++ events_of v records.vectors cs ≡ events_of v start.vectors all
   pub tree_is : tree_after_all dist most records cs k.tree ≡ tree_after_all dist most start all tree
-  pub paid : (reached : ℕ) → ArePaid most (density dist v.eps v.minpts) k.tree records cs now reached → ArePaid most (density dist v.eps v.minpts) tree start all steps reached
-  pub worked : now + work_of_all (density_by v) records cs ≤ steps + work_of_all (density_by v) start all
+  pub paid : S → (reached : ℕ) → ArePaid most (density dist v.eps v.minpts) k.tree records cs now reached → ArePaid most (density dist v.eps v.minpts) tree start all steps reached
+  pub worked : S → now + work_of_all (density_by v) records cs ≤ steps + work_of_all (density_by v) start all
 
 -- changes that cost nothing are paid
 pub nothing_paid : (most : ℕ → ℕ) (d : Density) (tree : PlainTree) (records : Held) (cs : List Change) (steps : ℕ) → ArePaid most d tree records cs steps steps
@@ -172,12 +175,12 @@ nothing_paid most d tree records [] steps = omega arith
 nothing_paid most d tree records (Insert n v ∷ cs) steps = (steps, (omega arith, nothing_paid most d (tree_after d.dist most records (Insert n v) tree) (held_after records (Insert n v)) cs steps))
 nothing_paid most d tree records (Delete n ∷ cs) steps = (steps, ((λ grown all. omega arith), nothing_paid most d (tree_after d.dist most records (Delete n) tree) (held_after records (Delete n)) cs steps))
 
-module _ (dist : List ℕ → List ℕ → ℕ) (most : ℕ → ℕ) (v : Values) (start : Held) (tree : PlainTree) (steps : ℕ) (all : List Change) where
-  pub begins : (records : Held) (k : Kept) (events : List Event) (now : ℕ) (cs more : List Change) (c : Change) → cs ≡ c ∷ more → Goes dist most v start tree steps all records k events now cs → Goes dist most v start tree steps all records k events now (c ∷ more)
-  begins records k events now cs more c e h = let P : List Change → Type 0 = λ xs. Goes dist most v start tree steps all records k events now xs in subst P e h
+module _ (S : Type 0) (dist : List ℕ → List ℕ → ℕ) (most : ℕ → ℕ) (v : Values) (start : Held) (tree : PlainTree) (steps : ℕ) (all : List Change) where
+  pub begins : (records : Held) (k : Kept) (events : List Event) (now : ℕ) (cs more : List Change) (c : Change) → cs ≡ c ∷ more → Goes S dist most v start tree steps all records k events now cs → Goes S dist most v start tree steps all records k events now (c ∷ more)
+  begins records k events now cs more c e h = let P : List Change → Type 0 = λ xs. Goes S dist most v start tree steps all records k events now xs in subst P e h
 
   module _ (records : Held) (k : Kept) (events : List Event) (now : ℕ) (c : Change) (cs : List Change) (ok : IsOk (after v.cap start.vectors all))
-      (goes : Goes dist most v start tree steps all records k events now (c ∷ cs)) where
+      (goes : Goes S dist most v start tree steps all records k events now (c ∷ cs)) where
     first_applies : Applies goes.rest.0 v.cap records.vectors c cs
     first_applies = applies goes.rest.0 v.cap records.vectors c cs (subst IsOk (sym goes.rest.1) ok)
 
@@ -185,43 +188,46 @@ module _ (dist : List ℕ → List ℕ → ℕ) (most : ℕ → ℕ) (v : Values
     first_can = first_applies.can
 
     -- after one change more it may have come to this count, and no further
-    pub stopped_paid : (next : ℕ) → IsPaid most (density dist v.eps v.minpts) k.tree records c now next → ArePaid most (density dist v.eps v.minpts) tree start all steps next
-    stopped_paid next paid = goes.paid next (next, (paid, nothing_paid most (density dist v.eps v.minpts) _ _ cs next))
+    pub stopped_paid : S → (next : ℕ) → IsPaid most (density dist v.eps v.minpts) k.tree records c now next → ArePaid most (density dist v.eps v.minpts) tree start all steps next
+    stopped_paid s next paid = goes.paid s next (next, (paid, nothing_paid most (density dist v.eps v.minpts) _ _ cs next))
 
-    pub stopped_worked : (next : ℕ) → next ≤ now + work_of (density_by v) records c → next ≤ steps + work_of_all (density_by v) start all
-    stopped_worked next work = omega (arith, work, goes.worked)
+    pub stopped_worked : S → (next : ℕ) → next ≤ now + work_of (density_by v) records c → next ≤ steps + work_of_all (density_by v) start all
+    stopped_worked s next work = let so_far = goes.worked s in omega (arith, work, so_far)
 
-    module _ (next : Held) (k' : Kept) (more : List Event) (reached : ℕ) (is : next ≡ held_after records c) (held : AreHeld v next) (clusters : StandBy dist v next k')
+    module _ (next : Held) (k' : Kept) (more : List Event) (reached : ℕ) (is : next ≡ held_after records c) (held : AreHeld v next) (kept : IsKept v next k') (clusters : S → StandBy dist v next k')
         (tree_is : k'.tree ≡ tree_after dist most records c k.tree)
-        (told : more ≡ events ++ cases_of (marks_on v records.vectors) (marks_on v next.vectors))
-        (paid : IsPaid most (density dist v.eps v.minpts) k.tree records c now reached) (work : reached ≤ now + work_of (density_by v) records c) where
+        (told : S → more ≡ events ++ cases_of (marks_on v records.vectors) (marks_on v next.vectors))
+        (paid : S → IsPaid most (density dist v.eps v.minpts) k.tree records c now reached) (work : S → reached ≤ now + work_of (density_by v) records c) where
       rows_are : next.vectors ≡ changed records.vectors c
       rows_are = ap (λ (h : Held). h.vectors) is
 
       few : maps.len next.vectors ≤ v.cap
       few = subst (λ (rows : Rows). maps.len rows ≤ v.cap) (sym rows_are) (first_applies.few goes.holds.few)
 
-      events_now : more ++ events_of v next.vectors cs ≡ events_of v start.vectors all
-      events_now =
-          ap (λ (es : List Event). es ++ events_of v next.vectors cs) told
+      events_now : S → more ++ events_of v next.vectors cs ≡ events_of v start.vectors all
+      events_now s =
+          ap (λ (es : List Event). es ++ events_of v next.vectors cs) (told s)
           ∙ ap (λ (rows : Rows). (events ++ cases_of (marks_on v records.vectors) (marks_on v rows)) ++ events_of v rows cs) rows_are
           ∙ append_assoc events (cases_of (marks_on v records.vectors) (marks_on v (changed records.vectors c))) (events_of v (changed records.vectors c) cs)
-          ∙ goes.events_are
+          ∙ goes.events_are s
 
-      paid_now : (last : ℕ) → ArePaid most (density dist v.eps v.minpts) k'.tree next cs reached last → ArePaid most (density dist v.eps v.minpts) tree start all steps last
-      paid_now last rest =
+      paid_now : S → (last : ℕ) → ArePaid most (density dist v.eps v.minpts) k'.tree next cs reached last → ArePaid most (density dist v.eps v.minpts) tree start all steps last
+      paid_now s last rest =
           let P : PlainTree → Held → Type 0 = λ t h. ArePaid most (density dist v.eps v.minpts) t h cs reached last in
           let moved : P (tree_after dist most records c k.tree) (held_after records c) = subst (λ (h : Held). P (tree_after dist most records c k.tree) h) is (subst (λ (t : PlainTree). P t next) tree_is rest) in
-          goes.paid last (reached, (paid, moved))
+          goes.paid s last (reached, (paid s, moved))
 
-      worked_now : reached + work_of_all (density_by v) next cs ≤ steps + work_of_all (density_by v) start all
-      worked_now =
+      worked_now : S → reached + work_of_all (density_by v) next cs ≤ steps + work_of_all (density_by v) start all
+      worked_now s =
           let same : work_of_all (density_by v) next cs ≡ work_of_all (density_by v) (held_after records c) cs = ap (λ (h : Held). work_of_all (density_by v) h cs) is in
-          omega (arith, work, goes.worked, same)
+          let more_work = work s in
+          let so_far = goes.worked s in
+          omega (arith, more_work, so_far, same)
 
-      pub goes_further : Goes dist most v start tree steps all next k' more reached cs
+      pub goes_further : Goes S dist most v start tree steps all next k' more reached cs
       goes_further = record {
         holds = record { held = held; few = few };
+        kept = kept;
         clusters = clusters;
         fit = goes.fit.1;
         spelled = goes.spelled.1;
@@ -237,16 +243,16 @@ module _ (dist : List ℕ → List ℕ → ℕ) (most : ℕ → ℕ) (v : Values
 
   pub record Ends (records : Held) (k : Kept) (events : List Event) (now : ℕ) : Type 0 where
     pub rows : records.vectors ≡ rows_after v start.vectors all
-    pub events_are : events ≡ events_of v start.vectors all
+    pub events_are : S → events ≡ events_of v start.vectors all
     pub tree_is : k.tree ≡ tree_after_all dist most start all tree
-    pub paid : ArePaid most (density dist v.eps v.minpts) tree start all steps now
-    pub worked : now ≤ steps + work_of_all (density_by v) start all
+    pub paid : S → ArePaid most (density dist v.eps v.minpts) tree start all steps now
+    pub worked : S → now ≤ steps + work_of_all (density_by v) start all
 
-  pub goes_last : (records : Held) (k : Kept) (events : List Event) (now : ℕ) → Goes dist most v start tree steps all records k events now [] → Ends records k events now
+  pub goes_last : (records : Held) (k : Kept) (events : List Event) (now : ℕ) → Goes S dist most v start tree steps all records k events now [] → Ends records k events now
   goes_last records k events now goes = record {
     rows = ap (or_else start.vectors) goes.rest.1;
-    events_are = sym (append-nil events) ∙ goes.events_are;
+    events_are = λ s. sym (append-nil events) ∙ goes.events_are s;
     tree_is = goes.tree_is;
-    paid = goes.paid now (omega arith);
-    worked = omega (arith, goes.worked);
+    paid = λ s. goes.paid s now (omega arith);
+    worked = λ s. let so_far = goes.worked s in omega (arith, so_far);
   }

@@ -21,7 +21,9 @@ use Rattle.warehouse_core.specs.Work.{work_of, held_after}
 use Rattle.warehouse_core.specs.Queries.{mark_on, near_on}
 use Rattle.batch_text.specs.Batch.{IsChangeOf}
 use Rattle.insert_case.specs.Inserted.{IsAddable}
-use Rattle.warehouse_core.specs.Inside.{AreHeld, CanFollow, StandBy}
+use Rattle.store_image.specs.Placing.{IsKept}
+use Rattle.warehouse_core.specs.States.{StandBy}
+use Rattle.warehouse_core.specs.Inside.{AreHeld, CanFollow}
 use Rattle.warehouse_core.proofs.Alike.{mark_by, marks_by, near_by, insertion_asked, deletion_asked}
 
 -- the density of the clusters is that of the parameters
@@ -32,6 +34,13 @@ density_is {dist = dist} by = λ i. density dist (by.eps i) (by.minpts i)
 abbrev pub IsDistance : (List ℕ → List ℕ → ℕ) → Values → Type 0
 IsDistance dist v = (a b : List ℕ) → IsVector (width_of v.metric v.dim) a → IsVector (width_of v.metric v.dim) b → dist a b ≡ distance_of v.metric a b
 
+-- what is near is found by the parameters, whatever the counts and labels are
+pub near_found : {dist : List ℕ → List ℕ → ℕ} {v : Values} {records : Held} {k : Kept} → IsKept v records k → AreHeld v records → IsDistance dist v → (n : ℕ)
+    → near_of (density_in dist k) (maps.entries records.vectors) n ≡ near_on v records.vectors n
+near_found {dist = dist} {v = v} {records = records} {k = k} kept held law n =
+    let density_is : density_in dist k ≡ density dist v.eps v.minpts = λ i. density dist (kept.eps i) (kept.minpts i) in
+    ap (λ (d : Density). near_of d (maps.entries records.vectors) n) density_is ∙ near_by v (maps.entries records.vectors) dist held.each law n
+
 module _ {dist : List ℕ → List ℕ → ℕ} {v : Values} {records : Held} {k : Kept} (by : StandBy dist v records k) (held : AreHeld v records) (law : IsDistance dist v) where
   pub marks_found : marks_in dist k records.vectors ≡ marks_on v records.vectors
   marks_found = ap (λ (d : Density). marks_of d (maps.entries records.vectors)) (density_is by) ∙ marks_by v (maps.entries records.vectors) dist held.each law
@@ -40,9 +49,6 @@ module _ {dist : List ℕ → List ℕ → ℕ} {v : Values} {records : Held} {k
   mark_found n =
       ap (λ (m : Mark). cond (maps.contains_key records.vectors n) (Some m) None)
       (ap (λ (d : Density). mark_of d (maps.entries records.vectors) n) (density_is by) ∙ mark_by v (maps.entries records.vectors) dist held.each law n)
-
-  pub near_found : (n : ℕ) → near_of (density_in dist k) (maps.entries records.vectors) n ≡ near_on v records.vectors n
-  near_found n = ap (λ (d : Density). near_of d (maps.entries records.vectors) n) (density_is by) ∙ near_by v (maps.entries records.vectors) dist held.each law n
 
   module _ (next : Held) (held' : AreHeld v next) where
     -- what is told is the events of the change, by the metric

@@ -8,3 +8,4 @@ pub mod Numbered
 pub mod Spent
 pub mod Changed
 pub mod Fresh
+pub mod Opened

@@ -1,48 +1,64 @@
 -- What the images of a site are, before a batch is written.
 use Rattle.std.proofs.Common.{◌≡◌, ◌⊎◌, inl, inr, ℕ, Bool, true, false, List, Result, Ok, Err, OnOk, refl, sym, ap, subst, ◌∙◌}
-use Rattle.vec_record.specs.Held.{Rows}
+use Rattle.vec_record.specs.Distance.{distance_of}
+use Rattle.vec_record.specs.Held.{Held, Rows}
+use Rattle.vec_record.specs.Limits.{width_of}
 use Rattle.page_layout.specs.Heads.{Values}
 use Rattle.vec_record.specs.declared.kind.MetricKind.{MetricKind}
-use Rattle.kept_clusters.specs.Kept.{Kept}
 use Rattle.site_disk.specs.State.{SiteState, IsNow, Safe}
 use Rattle.site_disk.proofs.Moments.{start}
 use Rattle.page_gate.specs.Gate.{opening, Opens}
 use Rattle.page_gate.specs.Promises.{Holds, Commits}
 use Rattle.page_gate.specs.Writes.{written}
-use Rattle.store_image.specs.declared.loaded.Loaded.{Loaded}
+use Rattle.store_image.specs.declared.loaded.Places.{Places}
 use Rattle.page_layout.specs.Heads.{HeadValue}
 use Rattle.store_image.specs.declared.fault.StoreFault.{StoreFault}
-use Rattle.store_image.specs.Placing.{AreAt}
-use Rattle.store_image.specs.Images.{Image, Places, image_of}
-use Rattle.store_image.specs.Loading.{and_then, load_of, params_in_pages, values_of_head}
-use Rattle.store_image.specs.Stores.{IsStore, LoadsAreStores}
+use Rattle.store_image.specs.Images.{Image}
+use Rattle.store_image.specs.Loading.{and_then, head_in_pages, load_of, params_in_pages, values_of_head}
+use Rattle.store_image.specs.Stores.{AreDueIn, IsStore, LoadsAreStores}
 use Rattle.warehouse_core.specs.declared.refusal.Refusal.{Refusal}
 use Rattle.warehouse_core.specs.declared.refusal.Refusal.TheVariants.{Memory, SiteFault}
-use Rattle.warehouse_core.specs.States.{State}
-use Rattle.warehouse_core.specs.Inside.{IsPaged, Saves, Stands, state_of}
+use Rattle.warehouse_core.specs.States.{State, StandBy, IsClustered, held_in}
+use Rattle.warehouse_core.specs.Inside.{Saves, Stands, state_of}
 use Rattle.warehouse_core.specs.Applying.{IsBefore, Steps}
 
 -- a warehouse that hasn't failed stands
-pub stands : (dist : List ℕ → List ℕ → ℕ) (kind : MetricKind) (s : Loaded) (pages : List (List ℕ)) (k : Kept) (stored failed : Bool) (w : State) → (failed ≡ false → Stands dist kind stored s pages k) → state_of s pages stored failed k ≡ w → w.failed ≡ false → Stands dist kind stored s pages k
-stands dist kind s pages k stored failed w whole view not_failed = whole (ap (λ (x : State). x.failed) view ∙ not_failed)
+pub stands : (dist : List ℕ → List ℕ → ℕ) (kind : MetricKind) (i : Image) (places : Places) (pages : List (List ℕ)) (stored failed : Bool) (w : State) → (failed ≡ false → Stands dist kind stored i places pages) → state_of i pages stored failed ≡ w → w.failed ≡ false
+    → Stands dist kind stored i places pages
+stands dist kind i places pages stored failed w whole view not_failed = whole (ap (λ (x : State). x.failed) view ∙ not_failed)
 
--- and its pages are those of its store, if it has one
-pub paged : (dist : List ℕ → List ℕ → ℕ) (kind : MetricKind) (s : Loaded) (pages : List (List ℕ)) (k : Kept) (stored failed : Bool) (w : State) → (failed ≡ false → Stands dist kind stored s pages k) → state_of s pages stored failed k ≡ w → w.failed ≡ false → w.stored ≡ true → IsPaged s pages
-paged dist kind s pages k stored failed w whole view not_failed is_stored = (stands dist kind s pages k stored failed w whole view not_failed).paged (ap (λ (x : State). x.stored) view ∙ is_stored)
+-- and it has a store where it says so
+pub is_stored : (i : Image) (pages : List (List ℕ)) (stored failed : Bool) (w : State) → state_of i pages stored failed ≡ w → w.stored ≡ true → stored ≡ true
+is_stored i pages stored failed w view has = ap (λ (x : State). x.stored) view ∙ has
 
-module _ (law : LoadsAreStores) (s : Loaded) (pages : List (List ℕ)) (k : Kept) (is_paged : IsPaged s pages) where
-  opened : (stored failed : Bool) (c : List ℕ) → opening c ≡ Opens pages → IsBefore (state_of s pages stored failed k) c
-  opened stored failed c opens = law c pages (image_of s) opens is_paged.loads
+-- what is clustered as a warehouse is clustered inside it, and the other way round
+module _ (i : Image) (pages : List (List ℕ)) (stored failed : Bool) (w : State) (view : state_of i pages stored failed ≡ w) (width : i.records.width ≡ width_of i.head.values.metric i.head.values.dim) where
+  same_records : held_in (state_of i pages stored failed) ≡ i.records
+  same_records j = record { width = sym width j; vectors = i.records.vectors }
+
+  pub inside : IsClustered w → StandBy (distance_of i.head.values.metric) i.head.values i.records i.kept
+  inside is =
+      let P : Held → Type 0 = λ h. StandBy (distance_of i.head.values.metric) i.head.values h i.kept in
+      subst P same_records (subst IsClustered (sym view) is)
+
+  pub outside : StandBy (distance_of i.head.values.metric) i.head.values i.records i.kept → IsClustered w
+  outside by =
+      let P : Held → Type 0 = λ h. StandBy (distance_of i.head.values.metric) i.head.values h i.kept in
+      subst IsClustered view (subst P (sym same_records) by)
+
+module _ (law : LoadsAreStores) (i : Image) (pages : List (List ℕ)) (loads : load_of pages ≡ Ok i) (due : AreDueIn pages) where
+  opened : (stored failed : Bool) (c : List ℕ) → opening c ≡ Opens pages → IsBefore (state_of i pages stored failed) c
+  opened stored failed c opens = law c pages i opens loads due
 
   -- a content with its pages is the store as it is
-  pub opened_before : (stored failed : Bool) (w : State) (c : List ℕ) → state_of s pages stored failed k ≡ w → opening c ≡ Opens pages → IsBefore w c
+  pub opened_before : (stored failed : Bool) (w : State) (c : List ℕ) → state_of i pages stored failed ≡ w → opening c ≡ Opens pages → IsBefore w c
   opened_before stored failed w c view opens = let P : State → Type 0 = λ x. IsBefore x c in subst P view (opened stored failed c opens)
 
-  held_pages : (stored failed : Bool) (w : State) (a : SiteState) (c : List ℕ) → state_of s pages stored failed k ≡ w → Holds w.pages a → a.may_leave c → opening c ≡ Opens pages
+  held_pages : (stored failed : Bool) (w : State) (a : SiteState) (c : List ℕ) → state_of i pages stored failed ≡ w → Holds w.pages a → a.may_leave c → opening c ≡ Opens pages
   held_pages stored failed w a c view holds may = ap opening (holds.only c may) ∙ holds.list ∙ ap (λ (x : State). Opens x.pages) (sym view)
 
   -- nothing was written
-  pub unwritten : (body : List ℕ) (result : Result Unit Refusal) (stored failed : Bool) (w : State) (a : SiteState) → state_of s pages stored failed k ≡ w → Holds w.pages a → IsNow a → Steps body result w a a
+  pub unwritten : (body : List ℕ) (result : Result Unit Refusal) (stored failed : Bool) (w : State) (a : SiteState) → state_of i pages stored failed ≡ w → Holds w.pages a → IsNow a → Steps body result w a a
   unwritten body result stored failed w a view holds now =
       let before : (c : List ℕ) → a.may_leave c → IsBefore w c = λ c may. opened_before stored failed w c view (held_pages stored failed w a c view holds may) in
       record {
@@ -59,11 +75,11 @@ weaker a b P Q safe f = record {
   now = λ c may. f b.said c (safe.now c may);
 }
 
-module _ (law : LoadsAreStores) (old new : List (List ℕ)) (image : Image) (values : Values) (rows : Rows) (batches : ℕ) (loads : load_of new ≡ Ok image)
+module _ (law : LoadsAreStores) (old new : List (List ℕ)) (image : Image) (values : Values) (rows : Rows) (batches : ℕ) (loads : load_of new ≡ Ok image) (due : AreDueIn new)
     (values_are : image.head.values ≡ values) (rows_are : image.records.vectors ≡ rows) (batches_are : image.head.batches ≡ batches) where
   new_store : (c : List ℕ) → opening c ≡ Opens new → IsStore values rows batches c
   new_store c opens =
-      let is = law c new image opens loads in
+      let is = law c new image opens loads due in
       let P : Values → Type 0 = λ v. IsStore v image.records.vectors image.head.batches c in
       let Q : Rows → Type 0 = λ r. IsStore values r image.head.batches c in
       let R : ℕ → Type 0 = λ n. IsStore values rows n c in
@@ -101,9 +117,9 @@ planned old before new ws done a b same is commits =
     subst Q is (subst P same commits)
 
 -- the parameters of pages that are at a head are those of the head
-pub same_kind : (pages : List (List ℕ)) (h : HeadValue) (places : Places) (kind : MetricKind) → AreAt h places pages → ((v : Values) → params_in_pages pages ≡ Ok v → v.metric ≡ kind) → h.values.metric ≡ kind
+pub same_kind : (pages : List (List ℕ)) (h : HeadValue) (kind : MetricKind) → head_in_pages pages ≡ Ok h → ((v : Values) → params_in_pages pages ≡ Ok v → v.metric ≡ kind) → h.values.metric ≡ kind
 unfolding params_in_pages
-same_kind pages h places kind at all = all h.values (ap (λ (r : Result HeadValue StoreFault). and_then r values_of_head) at.head)
+same_kind pages h kind head all = all h.values (ap (λ (r : Result HeadValue StoreFault). and_then r values_of_head) head)
 
 -- a fault of the site is no want of memory, and no Ok
 pub faulted : (P : Type 0) (r : Result Unit Refusal) (e : Refusal) → r ≡ Err e → e ≡ SiteFault → (r ≡ Err Memory → ⊥) × OnOk r P

@@ -6,9 +6,9 @@ use Rattle.vec_record.specs.Limits.{width_of}
 use Rattle.vec_record.specs.declared.kind.MetricKind.{MetricKind}
 use Rattle.vec_record.specs.declared.change.Change.{Change}
 use Rattle.vec_record.specs.declared.change.Change.TheVariants.{Insert, Delete}
-use Rattle.page_layout.specs.Heads.{Values, plain}
-use Rattle.store_image.specs.declared.loaded.Loaded.{Loaded}
-use Rattle.store_image.specs.Images.{image_with}
+use Rattle.page_layout.specs.Heads.{Values}
+use Rattle.store_image.specs.declared.loaded.Places.{Places}
+use Rattle.store_image.specs.Images.{Image}
 use Rattle.store_image.specs.Loading.{load_of}
 use Rattle.store_image.specs.Placing.{CanStand, IsPaged, IsKept}
 use Rattle.vec_record.specs.Held as held
@@ -21,15 +21,15 @@ use Rattle.warehouse_core.specs.declared.refusal.Refusal.TheVariants.{Memory}
 use Rattle.warehouse_core.specs.States.{State, StandBy}
 
 -- a warehouse with this store in memory and these pages
-abbrev pub state_of : Loaded → List (List ℕ) → Bool → Bool → State
-state_of s pages stored failed = record {
-  values = (plain s.head).values;
+abbrev pub state_of : Image → List (List ℕ) → Bool → Bool → State
+state_of i pages stored failed = record {
+  values = i.head.values;
   pages = pages;
-  rows = s.records.vectors;
-  batches = s.head.batches;
+  rows = i.records.vectors;
+  batches = i.head.batches;
   stored = stored;
   failed = failed;
-  kept = s.clusters;
+  kept = i.kept;
 }
 
 -- records whose numbers and vectors a store with these parameters can hold
@@ -50,14 +50,13 @@ CanFollow cap rows (Delete n) = IsSome (map.get rows n)
 -- the metric is that of the parameters, the clusters fit the records, and where there is a store it has the pages, which
 -- load as it where the clusters stand for the records
 pub record Stands
-    (dist : List ℕ → List ℕ → ℕ) (kind : MetricKind) (stored : Bool) (s : Loaded)
+    (dist : List ℕ → List ℕ → ℕ) (kind : MetricKind) (stored : Bool) (i : Image) (places : Places)
     (pages : List (List ℕ)) : Type 0 where
-  pub paged : stored ≡ true → IsPaged (plain s.head) s.places pages
-  pub loads : stored ≡ true → StandBy dist (plain s.head).values s.records s.clusters
-      → load_of pages ≡ Ok (image_with (plain s.head) s.records s.clusters)
-  pub kind_is : (plain s.head).values.metric ≡ kind
-  pub holds : CanHold (plain s.head).values s.records
-  pub kept : IsKept (plain s.head).values s.records s.clusters
+  pub paged : stored ≡ true → IsPaged i.head places pages
+  pub loads : stored ≡ true → StandBy dist i.head.values i.records i.kept → load_of pages ≡ Ok i
+  pub kind_is : i.head.values.metric ≡ kind
+  pub holds : CanHold i.head.values i.records
+  pub kept : IsKept i.head.values i.records i.kept
 
 -- Nothing is said, and each image, at each moment, has the old pages or is a store with what is saved; want of memory
 -- comes before the first write, and after Ok the only image has the new pages.

@@ -12,7 +12,9 @@ ghost use Rattle.warehouse_core.specs.Costs.{tree_after, tree_after_all};
 ghost use Rattle.warehouse_core.specs.Work.{held_after};
 ghost use Rattle.warehouse_core.specs.Costs.{IsPaid, ArePaid};
 ghost use Rattle.warehouse_core.specs.Work.{work_of, work_of_all};
-ghost use Rattle.warehouse_core.specs.Inside.{AreHeld, CanHold, CanFollow, StandBy};
+ghost use Rattle.store_image.specs.Placing.{IsKept};
+ghost use Rattle.warehouse_core.specs.States.{StandBy};
+ghost use Rattle.warehouse_core.specs.Inside.{AreHeld, CanHold, CanFollow};
 
 use kept_clusters::Clusters;
 use std::alloc::{AllocError, Global};
@@ -31,22 +33,26 @@ fn apply_one<M: Metric, L: Ledger>(
 ) -> Result<(), AllocError>
     requires kind { params.now.metric ≡ M.KIND }
     requires held { AreHeld (values_of params.now) records.old }
-    requires clusters { StandBy M.dist (values_of params.now) records.old clusters.old }
+    requires kept { IsKept (values_of params.now) records.old clusters.old }
     requires fits { IsChangeOf (width_of params.now.metric params.now.dim) change }
     requires spelled { IsSpelledChange params.now.metric params.now.dim change }
     requires can { CanFollow params.now.cap records.old.vectors change }
     ensures records { OnOk result (records.new ≡ held_after records.old change) }
     ensures held { OnOk result (AreHeld (values_of params.now) records.new) }
-    ensures clusters { OnOk result
-        (StandBy M.dist (values_of params.now) records.new clusters.new) }
+    ensures kept { OnOk result (IsKept (values_of params.now) records.new clusters.new) }
+    ensures clusters { StandBy M.dist (values_of params.now) records.old clusters.old
+        → OnOk result (StandBy M.dist (values_of params.now) records.new clusters.new) }
     ensures tree { OnOk result (clusters.new.tree
         ≡ tree_after M.dist M.most records.old change clusters.old.tree) }
-    ensures events { OnOk result (events.new ≡ events.old
+    ensures events { StandBy M.dist (values_of params.now) records.old clusters.old
+        → OnOk result (events.new ≡ events.old
         ++ cases_of (marks_on (values_of params.now) records.old.vectors)
         (marks_on (values_of params.now) records.new.vectors)) }
-    ensures price { IsPaid M.most (density M.dist params.now.eps params.now.minpts)
+    ensures price { StandBy M.dist (values_of params.now) records.old clusters.old
+        → IsPaid M.most (density M.dist params.now.eps params.now.minpts)
         clusters.old.tree records.old change steps.old steps.new }
-    ensures work { steps.new ≤ steps.old
+    ensures work { StandBy M.dist (values_of params.now) records.old clusters.old
+        → steps.new ≤ steps.old
         + work_of (density_by (values_of params.now)) records.old change }
 {
     match change {
@@ -67,7 +73,7 @@ pub(crate) fn apply_changes<M: Metric, L: Ledger>(
 ) -> Result<Events, AllocError>
     requires kind { params.now.metric ≡ M.KIND }
     requires holds { CanHold (values_of params.now) records.old }
-    requires clusters { StandBy M.dist (values_of params.now) records.old clusters.old }
+    requires kept { IsKept (values_of params.now) records.old clusters.old }
     requires fits { AllByRecursion (IsChangeOf (width_of params.now.metric params.now.dim))
         changes }
     requires spelled { AllByRecursion (IsSpelledChange params.now.metric params.now.dim) changes }
@@ -75,15 +81,19 @@ pub(crate) fn apply_changes<M: Metric, L: Ledger>(
     ensures records { OnOk result
         (records.new.vectors ≡ rows_after (values_of params.now) records.old.vectors changes) }
     ensures holds { OnOk result (CanHold (values_of params.now) records.new) }
-    ensures clusters { OnOk result
-        (StandBy M.dist (values_of params.now) records.new clusters.new) }
+    ensures kept { OnOk result (IsKept (values_of params.now) records.new clusters.new) }
+    ensures clusters { StandBy M.dist (values_of params.now) records.old clusters.old
+        → OnOk result (StandBy M.dist (values_of params.now) records.new clusters.new) }
     ensures tree { OnOk result (clusters.new.tree
         ≡ tree_after_all M.dist M.most records.old changes clusters.old.tree) }
-    ensures events { IfOk result
+    ensures events { StandBy M.dist (values_of params.now) records.old clusters.old
+        → IfOk result
         (λ events. events ≡ events_of (values_of params.now) records.old.vectors changes) }
-    ensures price { ArePaid M.most (density M.dist params.now.eps params.now.minpts)
+    ensures price { StandBy M.dist (values_of params.now) records.old clusters.old
+        → ArePaid M.most (density M.dist params.now.eps params.now.minpts)
         clusters.old.tree records.old changes steps.old steps.new }
-    ensures work { steps.new ≤ steps.old
+    ensures work { StandBy M.dist (values_of params.now) records.old clusters.old
+        → steps.new ≤ steps.old
         + work_of_all (density_by (values_of params.now)) records.old changes }
 {
     let mut events = Events::new(alloc);

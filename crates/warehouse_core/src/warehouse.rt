@@ -65,12 +65,17 @@ impl<M: Metric> Model for Warehouse<M> {
 
     ghost coded = { state_code };
 
+    ghost use Rattle.page_layout.specs.Heads.{plain};
+    ghost use Rattle.store_image.specs.Images.{image_with};
     ghost use Rattle.warehouse_core.specs.Inside.{Stands, state_of};
 
-    ghost view = { λ w. state_of w.state w.pages.list w.stored w.failed };
+    ghost view = { λ w. state_of (image_with (plain w.state.head) w.state.records w.state.clusters)
+        w.pages.list w.stored w.failed };
 
     ghost invariant = { λ w. w.failed ≡ false
-        → Stands M.dist M.KIND w.stored w.state w.pages.list };
+        → Stands M.dist M.KIND w.stored
+        (image_with (plain w.state.head) w.state.records w.state.clusters) w.state.places
+        w.pages.list };
 }
 
 impl<M: Metric> Warehouse<M> {
@@ -258,7 +263,7 @@ impl<M: Metric> Warehouse<M> {
         let batch = self.state.head.batches + 1;
         let line = receipt(alloc, batch, insertions, deletions, events.as_slice())?;
         let pages = &mut self.pages;
-        save(alloc, site, pages, &mut self.state, line.as_slice(), out)?;
+        save::<M, T>(alloc, site, pages, &mut self.state, line.as_slice(), out)?;
         feed.tell_all(&events);
         self.failed = false;
         Ok(())

@@ -4,37 +4,39 @@ use Rattle.vec_record.specs.declared.change.Change.{Change}
 use Rattle.vec_record.specs.declared.event.Event.{Event}
 use Rattle.warehouse_core.specs.Batches.{events_of}
 use Rattle.page_layout.specs.Heads.{values_of}
+use Rattle.warehouse_core.specs.States.{StandBy}
 use Rattle.warehouse_core.proofs.Applied.{Goes, begins, first_can, stopped_paid, stopped_worked, goes_further}
 use Rattle.warehouse_core.proofs.changing.apply_changes.Goals as goal
 
 pub apply_one-requires-clause-can : goal.apply_one-requires-clause-can
 apply_one-requires-clause-can g c =
-    first_can _ _ _ _ _ _ _ _ _ _ _ _ _ c.requires.accepted (begins _ _ _ _ _ _ _ _ _ _ _ _ _ _ c.in-Some.ensures.steps.0 c.loop-change.invariant.3)
+    first_can _ _ _ _ _ _ _ _ _ _ _ _ _ _ c.requires.accepted (begins _ _ _ _ _ _ _ _ _ _ _ _ _ _ _ c.in-Some.ensures.steps.0 c.loop-change.invariant.3)
 
 pub returns-in_err-apply_one-clause-price : goal.returns-in_err-apply_one-clause-price
 returns-in_err-apply_one-clause-price g c =
-    stopped_paid _ _ _ _ _ _ _ _ _ _ _ _ _ c.requires.accepted (begins _ _ _ _ _ _ _ _ _ _ _ _ _ _ c.in-Some.ensures.steps.0 c.loop-change.invariant.3) _ c.apply_one.ensures.price
+    λ s. stopped_paid _ _ _ _ _ _ _ _ _ _ _ _ _ _ c.requires.accepted (begins _ _ _ _ _ _ _ _ _ _ _ _ _ _ _ c.in-Some.ensures.steps.0 c.loop-change.invariant.3) s _ (c.apply_one.ensures.price (c.loop-change.invariant.3.clusters s))
 
 pub returns-in_err-apply_one-clause-work : goal.returns-in_err-apply_one-clause-work
 returns-in_err-apply_one-clause-work g c =
-    stopped_worked _ _ _ _ _ _ _ _ _ _ _ _ _ c.requires.accepted (begins _ _ _ _ _ _ _ _ _ _ _ _ _ _ c.in-Some.ensures.steps.0 c.loop-change.invariant.3) _ c.apply_one.ensures.work
+    λ s. stopped_worked _ _ _ _ _ _ _ _ _ _ _ _ _ _ c.requires.accepted (begins _ _ _ _ _ _ _ _ _ _ _ _ _ _ _ c.in-Some.ensures.steps.0 c.loop-change.invariant.3) s _ (c.apply_one.ensures.work (c.loop-change.invariant.3.clusters s))
 
 pub loop-change-init : goal.loop-change-init
 loop-change-init g c =
     let gives = c.into_iter-change-iterator.ensures.into_iter_gives in
     let all : into_iter_items c.into_iter-change-iterator.result ≡ c.args.changes = gives.0 ∙ c.into_vec-change-items.ensures in
     let P : List Change → Type 0 = λ cs.
-    Goes g.M.Metric.dist g.M.Metric.most (values_of c.args.params.now) c.args.records.now c.args.clusters.now.tree c.args.steps.now c.args.changes c.args.records.now c.args.clusters.now c.new-events.result c.args.steps.now cs in
+    Goes (StandBy g.M.Metric.dist (values_of c.args.params.now) c.args.records.now c.args.clusters.now) g.M.Metric.dist g.M.Metric.most (values_of c.args.params.now) c.args.records.now c.args.clusters.now.tree c.args.steps.now c.args.changes c.args.records.now c.args.clusters.now c.new-events.result c.args.steps.now cs in
     let first : P c.args.changes = record {
       holds = c.requires.holds;
-      clusters = c.requires.clusters;
+      kept = c.requires.kept;
+      clusters = λ s. s;
       fit = c.requires.fits;
       spelled = c.requires.spelled;
       rest = (1, refl);
-      events_are = ap (λ (es : List Event). es ++ events_of (values_of c.args.params.now) c.args.records.now.vectors c.args.changes) c.new-events.ensures;
+      events_are = λ s. ap (λ (es : List Event). es ++ events_of (values_of c.args.params.now) c.args.records.now.vectors c.args.changes) c.new-events.ensures;
       tree_is = refl;
-      paid = λ reached paid. paid;
-      worked = omega arith;
+      paid = λ s reached paid. paid;
+      worked = λ s. omega arith;
     } in
     (tt, tt, gives.1 ∙ (c.into_vec-change-items.result.ok.0 ∙ ap length (sym gives.0)), subst P (sym all) first)
 
@@ -46,5 +48,5 @@ loop-change-preserved g c =
       tt,
       tt,
       whole,
-      goes_further _ _ _ _ _ _ _ _ _ _ _ _ _ c.requires.accepted (begins _ _ _ _ _ _ _ _ _ _ _ _ _ _ steps.0 c.loop-change.invariant.3) _ _ _ _ done.records done.held done.clusters done.tree done.events done.price done.work,
+      goes_further _ _ _ _ _ _ _ _ _ _ _ _ _ _ c.requires.accepted (begins _ _ _ _ _ _ _ _ _ _ _ _ _ _ _ steps.0 c.loop-change.invariant.3) _ _ _ _ done.records done.held done.kept (λ s. done.clusters (c.loop-change.invariant.3.clusters s)) done.tree (λ s. done.events (c.loop-change.invariant.3.clusters s)) (λ s. done.price (c.loop-change.invariant.3.clusters s)) (λ s. done.work (c.loop-change.invariant.3.clusters s)),
     )
