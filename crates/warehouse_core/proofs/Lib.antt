@@ -9,3 +9,5 @@ pub mod Spent
 pub mod Changed
 pub mod Fresh
 pub mod Opened
+pub mod Stored
+pub mod After

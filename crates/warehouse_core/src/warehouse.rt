@@ -41,7 +41,7 @@ use site_disk::Site;
 use std::alloc::{AllocError, Global};
 use std::marker::Model;
 use std::sync::ledger::Ledger;
-use store_image::laws::{due_lines_stand, loads_are_stores};
+use store_image::laws::{due_lines_stand, loads_are_stores, standing_are_hung};
 use store_image::{Loaded, StoreFault};
 use vec_record::{Bytes, Changes, Events, Metric, Number, Numbers, Params, Records, Steps};
 
@@ -191,6 +191,7 @@ impl<M: Metric> Warehouse<M> {
             self.new.kept.tree)) }
     {
         loads_are_stores();
+        due_lines_stand();
         let params = self.state.head.params;
         let batches = self.state.head.batches;
         match judge(self.alloc, &params, batches, &self.state.records, body) {
@@ -251,6 +252,8 @@ impl<M: Metric> Warehouse<M> {
             self.new.kept.tree) }
     {
         loads_are_stores();
+        due_lines_stand();
+        standing_are_hung();
         // What is in memory runs ahead of the store until the batch is saved.
         self.failed = true;
         let alloc = self.alloc;
