@@ -12,10 +12,11 @@ use Rattle.stored_lines.specs.Laws.{AreHung}
 use Rattle.stored_tree.specs.Shapes.{with_tags}
 use Rattle.store_image.specs.Images.{Image}
 use Rattle.store_image.specs.Loading.{load_of}
-use Rattle.store_image.specs.Placing.{IsKept, bodies_on, image_on, saved_laid}
+use Rattle.store_image.specs.declared.loaded.Places.{Places}
+use Rattle.store_image.specs.Placing.{IsKept, IsPaged, bodies_on, image_on, saved_laid}
 use Rattle.store_image.specs.Stores.{AreDueIn, DueLinesStand, StandingAreHung}
 use Rattle.warehouse_core.specs.Applying.{IsTagged}
-use Rattle.warehouse_core.specs.Inside.{state_of}
+use Rattle.warehouse_core.specs.Inside.{CanHold, Stands, state_of}
 use Rattle.warehouse_core.specs.States.{IsClustered, StandBy}
 use Rattle.warehouse_core.proofs.Moments.{inside, outside}
 use Rattle.warehouse_core.proofs.Opened.{stand_due}
@@ -62,3 +63,17 @@ module _ (old : List (List ℕ)) (was is : Image) (image : is ≡ image_on was.h
 
       pub due_after : DueLinesStand → IsClustered (state_of is pages stored false) → AreDueIn pages
       due_after law clustered = stand_due law is pages (loads_after clustered) (by_after clustered)
+
+  -- it stands again
+  pub stands_again : (dist : List ℕ → List ℕ → ℕ) (kind : MetricKind) (stored : Bool) (places : Places) (pages : List (List ℕ)) → StandingAreHung → (AreHung was.kept.counts → load_of pages ≡ Ok is) → IsPaged is.head places pages
+      → was.head.values.metric ≡ kind → CanHold was.head.values was.records → IsKept is.head.values is.records is.kept → Stands dist kind stored is places pages
+  stands_again dist kind stored places pages hung loads paged kind_is holds kept =
+      let V : Values → Type 0 = λ v. CanHold v is.records in
+      let H : Held → Type 0 = λ h. CanHold was.head.values h in
+      record {
+        paged = λ _. paged;
+        loads = λ _ by. loads (subst AreHung counts_are (hung_on hung _ _ _ is.kept by));
+        kind_is = ap (λ (v : Values). v.metric) values_are ∙ kind_is;
+        holds = subst V (sym values_are) (subst H (sym records_are) holds);
+        kept = kept;
+      }

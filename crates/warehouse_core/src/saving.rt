@@ -67,6 +67,7 @@ pub(crate) fn save<M: Metric, T: Site>(
     ensures unwritten { result ≡ Err Memory → site.new ≡ site.old }
     ensures fault { result ≡ Err SiteFault → Rose (T.faults site.old) (T.faults site.new) }
     ensures later { T.faults site.old ≤ T.faults site.new }
+    ensures ready { IsTrue T.tells → OnOk result (Holds pages.new.list (T.state site.new)) }
     ensures told { IsTrue T.tells → StandBy (distance_of state.old.head.params.metric)
         (plain state.old.head).values state.old.records state.old.clusters
         → Saves pages.old.list (plain state.old.head).values state.old.records.vectors

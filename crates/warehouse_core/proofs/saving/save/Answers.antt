@@ -40,3 +40,10 @@ pub returns-in_err-writes-clause-told : goal.returns-in_err-writes-clause-told
 returns-in_err-writes-clause-told g c = λ told by.
     let p = err_from_is_err_and c.from_residual-in_err-writes.result c.from_residual-in_err-writes.ensures.1 in
     rw (p.1) (unsaved_yet _ _ _ _ _ p.0 _ (c.requires.ready told) (g.met.T.Site.is_now c.args.site.now told))
+
+pub returns-clause-ready : goal.returns-clause-ready
+returns-clause-ready g c = λ told.
+    let plan = c.in_ok-writes.ensures in
+    let commits = planned c.args.pages.now.list c.plan_save.new.pages.list _ (pairs c.in_ok-writes.writes) _ _ _ plan.same plan.written (c.in_ok-commit.ensures.told told) in
+    let list = c.in_ok-commit.ensures.ok ∙ ap (λ (l : List (List ℕ)). written l (pairs c.in_ok-writes.writes)) plan.same ∙ plan.written in
+    subst (λ (l : List (List ℕ)). Holds l (g.T.Site.state c.commit.new.site)) (sym list) commits.holds

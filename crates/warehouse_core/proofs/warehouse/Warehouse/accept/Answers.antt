@@ -1,4 +1,4 @@
-use Rattle.std.proofs.Common.{◌≡◌, ◌∙◌, ◌++◌, ◌+◌, ◌≤◌, ℕ, List, ap, count_by, sym, subst, refl, Ok}
+use Rattle.std.proofs.Common.{◌≡◌, ◌∙◌, ◌++◌, ◌+◌, ◌≤◌, ℕ, false, List, ap, count_by, sym, subst, refl, Ok}
 use Rattle.std.proofs.lemmas.Result.{err_from_is_err_and}
 use Rattle.vec_record.specs.Distance.{distance_of}
 use Rattle.vec_record.specs.declared.event.Event.{Event}
@@ -7,10 +7,11 @@ use Rattle.page_layout.specs.Heads.{Values, plain}
 use Rattle.store_image.specs.Images.{image_with}
 use Rattle.event_feed.specs.Meanings.{meanings, told_all}
 use Rattle.warehouse_core.specs.Batches.{events_of}
-use Rattle.warehouse_core.specs.Receipts.{is_deletion, is_insertion}
-use Rattle.warehouse_core.specs.States.{State}
+use Rattle.warehouse_core.specs.Receipts.{is_deletion, is_insertion, receipt_text}
+use Rattle.warehouse_core.specs.Inside.{state_of}
+use Rattle.warehouse_core.specs.States.{State, IsClustered, StandBy}
 use Rattle.warehouse_core.proofs.Accepted.{accepts, counted_receipt, saved_steps}
-use Rattle.warehouse_core.proofs.After.{clustered_after, due_after, loads_after, tagged_after}
+use Rattle.warehouse_core.proofs.After.{clustered_after, due_after, loads_after, stands_again, tagged_after}
 use Rattle.warehouse_core.proofs.Alike.{lawful_width, stand_by, stand_under}
 use Rattle.warehouse_core.proofs.Found.{IsDistance}
 use Rattle.warehouse_core.proofs.Moments.{inside, is_stored, stands, unwritten}
@@ -101,23 +102,25 @@ returns-clause-ok g c =
     let new = c.save.new.state in
     let after = image_with (plain new.head) new.records new.clusters in
     let has = is_stored was c.self.inside.pages.list c.self.inside.stored c.self.inside.failed c.args.self.now c.self.view_is c.requires.stored in
-    let under = λ is. stand_under was.head.values was.records was.kept g.M.Metric.dist standing.holds.held.each law
+    let under : IsClustered c.args.self.now → StandBy g.M.Metric.dist was.head.values was.records was.kept = λ is.
+    stand_under was.head.values was.records was.kept g.M.Metric.dist standing.holds.held.each law
     (inside was c.self.inside.pages.list c.self.inside.stored c.self.inside.failed c.args.self.now c.self.view_is standing.holds.held.width is) in
-    let line = λ is.
-    counted_receipt (c.self.inside.state.head.batches + 1) c.count_insertions-insertions.result c.count_deletions-deletions.result c.args.changes c.as_slice-3.result.now _ c.in_ok-line.line c.in_ok-line.ensures
-    (c.count_insertions-insertions.ensures ∙ ap (count_by is_insertion) c.as_slice.ensures) (c.count_deletions-deletions.ensures ∙ ap (count_by is_deletion) c.as_slice-2.ensures) (c.as_slice-3.ensures ∙ taken.events (under is)) in
-    let receipt = λ is. saved.text ∙ ap (λ (l : List ℕ). c.args.out.now ++ l) (c.as_slice-4.ensures ∙ line is) in
+    let receipt : IsClustered c.args.self.now → c.save.new.out ≡ c.args.out.now ++ receipt_text (was.head.batches + 1) c.args.changes (events_of was.head.values was.records.vectors c.args.changes) = λ is.
+    saved.text ∙ ap (λ (l : List ℕ). c.args.out.now ++ l) (c.as_slice-4.ensures
+    ∙ counted_receipt (c.self.inside.state.head.batches + 1) c.count_insertions-insertions.result c.count_deletions-deletions.result c.args.changes c.as_slice-3.result.now _ c.in_ok-line.line c.in_ok-line.ensures
+    (c.count_insertions-insertions.ensures ∙ ap (count_by is_insertion) c.as_slice.ensures) (c.count_deletions-deletions.ensures ∙ ap (count_by is_deletion) c.as_slice-2.ensures) (c.as_slice-3.ensures ∙ taken.events (under is))) in
     let width : after.records.width ≡ width_of after.head.values.metric after.head.values.dim =
     let P : Values → Type 0 = λ v. after.records.width ≡ width_of v.metric v.dim in
     let same : after.head.values ≡ was.head.values = λ j. (saved.image j).head.values in
     let wide : after.records.width ≡ before.records.width = λ j. (saved.image j).records.width in
     subst P (sym same) (wide ∙ taken.holds.held.width) in
-    let now = λ is. clustered_after c.self.inside.pages.list before after saved.image c.save.new.pages.list c.self.inside.stored width saved.kept
+    let now : IsClustered c.args.self.now → IsClustered (state_of after c.save.new.pages.list c.self.inside.stored false) = λ is.
+    clustered_after c.self.inside.pages.list before after saved.image c.save.new.pages.list c.self.inside.stored width saved.kept
     (saved.stands _ _ (stand_by was.head.values before.records before.kept g.M.Metric.dist taken.holds.held.each law (taken.clusters (under is))).stand) in
-    let loads = loads_after c.self.inside.pages.list before after saved.image c.save.new.pages.list c.self.inside.stored width c.standing_are_hung.ensures saved.loads in
-    let due_are = due_after c.self.inside.pages.list before after saved.image c.save.new.pages.list c.self.inside.stored width c.standing_are_hung.ensures saved.loads c.due_lines_stand.ensures in
     accepts c.args.changes was before after s.places new.places c.self.inside.pages.list c.save.new.pages.list (standing.paged has) refl taken.records saved.pages saved.image
-    c.self.inside.stored c.self.inside.failed c.args.self.now c.self.view_is c.args.out.now c.save.new.out body c.requires.stored accepted now receipt loads due_are
+    c.self.inside.stored c.self.inside.failed c.args.self.now c.self.view_is c.args.out.now c.save.new.out body c.requires.stored accepted now receipt
+    (loads_after c.self.inside.pages.list before after saved.image c.save.new.pages.list c.self.inside.stored width c.standing_are_hung.ensures saved.loads)
+    (due_after c.self.inside.pages.list before after saved.image c.save.new.pages.list c.self.inside.stored width c.standing_are_hung.ensures saved.loads c.due_lines_stand.ensures)
 
 pub returns-clause-told : goal.returns-clause-told
 returns-clause-told g c =
@@ -262,3 +265,14 @@ save-requires-clause-paged g c =
     let was = image_with (plain s.head) s.records s.clusters in
     let standing = stands _ _ _ _ _ _ _ _ c.self.invariant c.self.view_is c.requires.whole in
     standing.paged (is_stored was c.self.inside.pages.list c.self.inside.stored c.self.inside.failed c.args.self.now c.self.view_is c.requires.stored)
+
+pub invariant_of-self-2 : goal.invariant_of-self-2
+invariant_of-self-2 g c = λ whole.
+    let s = c.self.inside.state in
+    let standing = stands _ _ _ _ _ _ _ _ c.self.invariant c.self.view_is c.requires.whole in
+    let taken = c.in_ok-events.ensures in
+    let saved = c.in_ok-save.ensures in
+    let before = image_with (plain s.head) c.apply_changes.new.records c.apply_changes.new.clusters in
+    let new = c.save.new.state in
+    stands_again c.self.inside.pages.list before (image_with (plain new.head) new.records new.clusters) saved.image g.M.Metric.dist g.M.Metric.KIND c.self.inside.stored new.places c.save.new.pages.list
+    c.standing_are_hung.ensures saved.loads saved.paged standing.kind_is taken.holds saved.kept

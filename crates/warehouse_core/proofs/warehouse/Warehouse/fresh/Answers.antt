@@ -1,6 +1,7 @@
-use Rattle.std.proofs.Common.{◌∙◌, ap, sym}
+use Rattle.std.proofs.Common.{◌∙◌, false, refl, ap, sym}
 use Rattle.vec_record.specs.Distance.{distance_of}
-use Rattle.page_layout.specs.Heads.{plain, values_of}
+use Rattle.vec_record.specs.Limits.{width_of}
+use Rattle.page_layout.specs.Heads.{Values, plain, values_of}
 use Rattle.store_image.specs.Images.{Image, image_with}
 use Rattle.warehouse_core.proofs.Alike.{lawful_width}
 use Rattle.warehouse_core.proofs.Fresh.{fresh_stands, fresh_stand_by}
@@ -24,4 +25,6 @@ returns-clause-clustered g c =
     let new = c.new-2.ensures in
     let law : IsDistance g.M.Metric.dist (values_of p) = λ a b is_a is_b.
     (g.met.M.Metric.defined _ a b (lawful_width p.metric p.dim p.eps p.minpts p.cap p.limits) is_a is_b).0 ∙ ap (λ k. distance_of k a b) (sym c.requires.kind) in
-    fresh_stand_by g.M.Metric.dist (values_of p) i new.values new.width new.rows new.clusters new.stands law
+    let width = new.width ∙ ap (λ (v : Values). width_of v.metric v.dim) (sym new.values) in
+    outside i c.new.result.list false false _ refl width
+    (fresh_stand_by g.M.Metric.dist (values_of p) i new.values new.width new.rows new.clusters new.stands law)

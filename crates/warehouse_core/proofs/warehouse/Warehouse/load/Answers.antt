@@ -1,5 +1,4 @@
-use Rattle.std.proofs.Common.{true, refl, sym, subst, arith, ◌∙◌, ap}
-use Rattle.vec_record.specs.Held.{Held}
+use Rattle.std.proofs.Common.{true, false, refl}
 use Rattle.page_layout.specs.Heads.{plain}
 use Rattle.store_image.specs.Images.{image_with}
 use Rattle.warehouse_core.proofs.Moments.{same_kind}
