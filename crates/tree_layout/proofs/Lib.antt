@@ -1,3 +1,4 @@
 pub mod Lists
 pub mod Filled
 pub mod Saved
+pub mod Sized
