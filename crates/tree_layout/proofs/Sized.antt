@@ -36,7 +36,7 @@ kinds_are kinds records leaves inners are =
     (all_both IsKind (replicate b 2) (replicate c 3) (kinds_same b 2 (inr (inl refl))) (kinds_same c 3 (inr (inr refl)))))
 
 -- how many numbers nodes of a kind have
-numbers_count : (leaf : Bool) (i : ℕ) (nodes : List Tagged)
+pub numbers_count : (leaf : Bool) (i : ℕ) (nodes : List Tagged)
     → length (numbers_from i leaf nodes) ≡ count_by (is_of leaf) nodes
 numbers_count leaf i [] = refl
 numbers_count leaf i (node ∷ nodes) =
