@@ -1,5 +1,5 @@
 -- How many body pages there are after a save, and the references of a save by the parts that were computed.
-use Rattle.std.proofs.Common.{◌≡◌, ℕ, ◌+◌, ◌-◌, ◌*◌, ◌/◌, ◌<◌, ◌≤◌, ◌^◌, max, Bool, true, false, List, ◌++◌, length, replicate, sym, ◌∙◌, ap, subst, arith, length-append}
+use Rattle.std.proofs.Common.{◌≡◌, ℕ, suc, ◌+◌, ◌-◌, ◌*◌, ◌/◌, ◌<◌, ◌≤◌, ◌^◌, max, Bool, true, false, List, ◌++◌, length, replicate, sym, ◌∙◌, ap, subst, arith, length-append}
 use Rattle.std.specs.Prelude.{◌==◌}
 use Rattle.std.specs.List.{count_by}
 use Rattle.std.proofs.lemmas.List.{length-replicate}
@@ -9,6 +9,14 @@ use Rattle.node_places.specs.Nodes.{is_of, numbers_from, count_of, leaf_slots, i
 use Rattle.node_places.proofs.Keeping.{leaves_stand, inners_stand}
 use Rattle.tree_layout.proofs.Sized.{numbers_count}
 
+four_long : (w x y z : List ℕ)
+    → length (w ++ (x ++ (y ++ z))) ≡ length w + (length x + (length y + length z))
+four_long w x y z = length-append w (x ++ (y ++ z))
+    ∙ ap (λ (n : ℕ). length w + n) (length-append x (y ++ z) ∙ ap (λ (n : ℕ). length x + n) (length-append y z))
+
+same_long : (n kind : ℕ) → length (replicate n kind) ≡ n
+same_long n kind = length-replicate n kind
+
 -- as many kinds as there were, and those of the pages that are added
 pub length-kinds : (kinds : List ℕ) (records leaves inners : ℕ)
     → length (kinds_after kinds records leaves inners) ≡ length kinds + ((records - count_of 1 kinds) + ((leaves - count_of 2 kinds) + (inners - count_of 3 kinds)))
@@ -16,9 +24,10 @@ length-kinds kinds records leaves inners =
     let a = records - count_of 1 kinds in
     let b = leaves - count_of 2 kinds in
     let c = inners - count_of 3 kinds in
-    length-append kinds (replicate a 1 ++ (replicate b 2 ++ replicate c 3))
-    ∙ ap (λ (n : ℕ). length kinds + n) (length-append (replicate a 1) (replicate b 2 ++ replicate c 3)
-    ∙ omega (arith, length-append (replicate b 2) (replicate c 3), length-replicate a 1, length-replicate b 2, length-replicate c 3))
+    four_long kinds (replicate a 1) (replicate b 2) (replicate c 3)
+    ∙ ap (λ (n : ℕ). length kinds + (n + (length (replicate b (suc 1)) + length (replicate c (suc 2))))) (same_long a 1)
+    ∙ ap (λ (n : ℕ). length kinds + (a + (n + length (replicate c (suc 2))))) (same_long b 2)
+    ∙ ap (λ (n : ℕ). length kinds + (a + (b + n))) (same_long c 3)
 
 few_more : (before records a leaves b inners c leaf_pages leaf_nodes inner_pages inner_nodes : ℕ)
     → before + 2 < 2 ^ 20 → records ≤ 200000 → leaf_pages ≤ before → leaf_nodes ≤ 200000
