@@ -1,5 +1,5 @@
 -- How many body pages there are after a save, and the references of a save by the parts that were computed.
-use Rattle.std.proofs.Common.{◌≡◌, ℕ, suc, ◌+◌, ◌-◌, ◌*◌, ◌/◌, ◌<◌, ◌≤◌, ◌^◌, max, Bool, true, false, List, ◌++◌, length, replicate, sym, ◌∙◌, ap, subst, arith, length-append}
+use Rattle.std.proofs.Common.{◌≡◌, ℕ, ◌+◌, ◌-◌, ◌*◌, ◌/◌, ◌<◌, ◌≤◌, ◌^◌, max, Bool, true, false, List, ◌++◌, length, replicate, sym, ◌∙◌, ap, subst, arith, length-append}
 use Rattle.std.specs.Prelude.{◌==◌}
 use Rattle.std.specs.List.{count_by}
 use Rattle.std.proofs.lemmas.List.{length-replicate}
@@ -24,9 +24,11 @@ length-kinds kinds records leaves inners =
     let a = records - count_of 1 kinds in
     let b = leaves - count_of 2 kinds in
     let c = inners - count_of 3 kinds in
-    four_long kinds (replicate a 1) (replicate b 2) (replicate c 3)
-    ∙ ap (λ (n : ℕ). length kinds + (n + (length (replicate b (suc 1)) + length (replicate c (suc 2))))) (same_long a 1)
-    ∙ ap (λ (n : ℕ). length kinds + (a + (n + length (replicate c (suc 2))))) (same_long b 2)
+    let twos : List ℕ = replicate b 2 in
+    let threes : List ℕ = replicate c 3 in
+    four_long kinds (replicate a 1) twos threes
+    ∙ ap (λ (n : ℕ). length kinds + (n + (length twos + length threes))) (same_long a 1)
+    ∙ ap (λ (n : ℕ). length kinds + (a + (n + length threes))) (same_long b 2)
     ∙ ap (λ (n : ℕ). length kinds + (a + (b + n))) (same_long c 3)
 
 few_more : (before records a leaves b inners c leaf_pages leaf_nodes inner_pages inner_nodes : ℕ)

@@ -210,9 +210,11 @@ module _ (size : ℕ) where
     slots_used r ([] ∷ slots) each = slots_used (r + 1) slots (λ k lt some.
         let next : r + suc k ≡ r + 1 + k = omega arith in subst Q next (each (suc k) (omega (arith, lt)) some))
     slots_used r ((row ∷ rows) ∷ slots) each =
-        let here : r + 0 ≡ r = omega arith in
-        (subst Q here (each 0 (omega arith) (omega arith)), slots_used (r + 1) slots (λ k lt some.
-        let next : r + suc k ≡ r + 1 + k = omega arith in subst Q next (each (suc k) (omega (arith, lt)) some)))
+        let here : r + 0 ≡ r = omega arith in (
+          subst Q here (each 0 (omega arith) (omega arith)),
+          slots_used (r + 1) slots (λ k lt some.
+              let next : r + suc k ≡ r + 1 + k = omega arith in subst Q next (each (suc k) (omega (arith, lt)) some)),
+        )
 
     inner_used : (first : ℕ) (rows : List InnerRow) → (0 < length rows → Q (64 * first))
         → AllByRecursion Q (page_refs first (page.Inner rows))

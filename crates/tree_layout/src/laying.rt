@@ -71,13 +71,13 @@ pub fn lay(
     let nodes = tagged_nodes(alloc, shapes)?;
     let slots = node_slots(alloc, kinds, &nodes)?;
     let pages = slots.leaves.len() / 63;
-    let kinds = kinds_after(alloc, kinds, records, pages, slots.inners.len())?;
-    let refs = refs_after(alloc, &kinds, &slots, &nodes)?;
+    let after = kinds_after(alloc, kinds, records, pages, slots.inners.len())?;
+    let refs = refs_after(alloc, &after, &slots, &nodes)?;
     let NodeSlots { leaves, inners } = slots;
     Ok(Layout {
         leaves,
         inners,
-        kinds,
+        kinds: after,
         refs,
     })
 }

@@ -11,11 +11,7 @@ fn refer_row(row: &mut (u32, u32, u32, Vector), refs: &[u32])
     ensures { row.new ≡ referring refs.now row.old }
 {
     let place = row.0 as usize;
-    row.0 = if place < refs.len() {
-        refs[place]
-    } else {
-        0
-    };
+    row.0 = if place < refs.len() { refs[place] } else { 0 };
 }
 
 fn refer_rows(rows: &mut InnerShape, refs: &[u32])
@@ -50,11 +46,11 @@ pub fn refer(shapes: &mut Shapes, refs: &[u32])
 pub fn leaf_at(shapes: &Shapes, number: u32) -> &[(Number, u32)]
     ensures { result.now ≡ leaf_for shapes.now number }
 {
-    let place = number as usize;
-    if place == 0 || shapes.len() < place {
+    let leaf = number as usize;
+    if leaf == 0 || shapes.len() < leaf {
         return &[];
     }
-    match &shapes.as_slice()[place - 1] {
+    match &shapes.as_slice()[leaf - 1] {
         Shape::Leaf { tag: _, rows } => rows.as_slice(),
         Shape::Inner { tag: _, rows: _ } => &[],
     }
@@ -64,11 +60,11 @@ pub fn leaf_at(shapes: &Shapes, number: u32) -> &[(Number, u32)]
 pub fn inner_at(shapes: &Shapes, number: u32) -> &[(u32, u32, u32, Vector)]
     ensures { result.now ≡ inner_for shapes.now number }
 {
-    let place = number as usize;
-    if place == 0 || shapes.len() < place {
+    let inner = number as usize;
+    if inner == 0 || shapes.len() < inner {
         return &[];
     }
-    match &shapes.as_slice()[place - 1] {
+    match &shapes.as_slice()[inner - 1] {
         Shape::Leaf { tag: _, rows: _ } => &[],
         Shape::Inner { tag: _, rows } => rows.as_slice(),
     }

@@ -14,7 +14,7 @@ refs_after-requires-clause-pages c =
     let inner_long : c.len.result ≡ length slots.inners.items = search rules in
     let few : length tags ≤ 200000 = subst (λ (n : ℕ). n ≤ 200000) (sym (length-map shapes tagged)) c.requires.few in
     few_shown c.args.kinds.now c.args.records tags c.deref.result.now (c.deref.ensures.value ∙ c.in_ok-nodes.ensures) slots.leaves.items slots.inners.items c.in_ok-slots.ensures.leaves c.in_ok-slots.ensures.inners
-    c.len-pages.result c.len.result leaf_long inner_long c.in_ok-kinds.kinds.items c.deref-2.result.now c.in_ok-kinds.ensures c.deref-2.ensures.value c.requires.pages c.requires.records few
+    c.len-pages.result c.len.result leaf_long inner_long c.in_ok-after.after.items c.deref-2.result.now c.in_ok-after.ensures c.deref-2.ensures.value c.requires.pages c.requires.records few
 
 pub returns-clause-refs : goal.returns-clause-refs
 returns-clause-refs c =
@@ -23,5 +23,5 @@ returns-clause-refs c =
     let leaf_long : c.len-pages.result ≡ length slots.leaves.items = search rules in
     let inner_long : c.len.result ≡ length slots.inners.items = search rules in
     refs_are c.args.kinds.now c.args.records tags c.deref.result.now (c.deref.ensures.value ∙ c.in_ok-nodes.ensures) slots.leaves.items slots.inners.items c.in_ok-slots.ensures.leaves c.in_ok-slots.ensures.inners
-    c.len-pages.result c.len.result leaf_long inner_long c.in_ok-kinds.kinds.items c.deref-2.result.now c.in_ok-kinds.ensures c.deref-2.ensures.value
+    c.len-pages.result c.len.result leaf_long inner_long c.in_ok-after.after.items c.deref-2.result.now c.in_ok-after.ensures c.deref-2.ensures.value
     c.deref-3.result.now c.in_ok-refs.refs.items (c.deref-3.ensures.value ∙ c.in_ok-nodes.ensures) c.in_ok-refs.ensures
