@@ -32,11 +32,14 @@ abbrev pub NodesAreLaid : Type 0
 NodesAreLaid =
     (kinds : List ℕ) (records : ℕ) (shapes : List Shape) → AreKinds kinds
     → AllByRecursion HasRows shapes
-    → AreLaid (pages_of (laid_of kinds records shapes) shapes) shapes (laid_of kinds records shapes).refs
+    → AreLaid (pages_of (laid_of kinds records shapes) shapes) shapes
+    (laid_of kinds records shapes).refs
 
--- What the numbers of slots, pages and references are after a save: the slots are those of the pages, there are no more
--- pages of a kind than before or than are needed, and each node has a reference that isn't 0 and names a body page.
-pub record AreSized (kinds : List ℕ) (records : ℕ) (shapes : List Shape) (laid : Laid) : Type 0 where
+-- What the numbers of slots, pages and references are after a save: the slots are those of the
+-- pages, there are no more pages of a kind than before or than are needed, and each node has a
+-- reference that isn't 0 and names a body page.
+pub record AreSized (kinds : List ℕ) (records : ℕ) (shapes : List Shape) (laid : Laid)
+    : Type 0 where
   pub kinds_are : AreKinds laid.kinds
   pub leaf_slots_are : length laid.leaves ≡ 63 * count_of 2 laid.kinds
   pub inner_slots_are : length laid.inners ≡ count_of 3 laid.kinds

@@ -14,8 +14,8 @@ abbrev pub tagged : Shape → Tagged
 tagged (shape.Leaf tag rows) = record { leaf = true; tag = tag }
 tagged (shape.Inner tag rows) = record { leaf = false; tag = tag }
 
--- The nodes by leaf slot and by inner page, counted from 1 in preorder, 0 where it is free; then the kinds of the body
--- pages, and the reference of each node.
+-- The nodes by leaf slot and by inner page, counted from 1 in preorder, 0 where it is free; then the
+-- kinds of the body pages, and the reference of each node.
 pub record Laid : Type 0 where
   pub leaves : List ℕ
   pub inners : List ℕ
@@ -34,11 +34,12 @@ abbrev pub laid_with : List ℕ → ℕ → List ℕ → List ℕ → List Tagge
 laid_with kinds records leaves inners nodes =
     laid_by (kinds_after kinds records (length leaves / 63) (length inners)) leaves inners nodes
 
--- where the nodes of a tree stand after a save, where the body pages had these kinds and the records need so many pages
+-- where the nodes of a tree stand after a save, where the body pages had these kinds and the records
+-- need so many pages
 abbrev pub laid_of : List ℕ → ℕ → List Shape → Laid
 laid_of kinds records shapes =
-    laid_with kinds records (leaf_slots kinds (map tagged shapes)) (inner_slots kinds (map tagged shapes))
-    (map tagged shapes)
+    laid_with kinds records (leaf_slots kinds (map tagged shapes))
+    (inner_slots kinds (map tagged shapes)) (map tagged shapes)
 
 -- the node with a number, counted from 1; none for 0
 abbrev pub node_at : List Shape → ℕ → Option Shape
@@ -68,8 +69,8 @@ leaf_for shapes i = leaf_rows (node_at shapes i)
 abbrev pub inner_for : List Shape → ℕ → List InnerRow
 inner_for shapes i = inner_rows (node_at shapes i)
 
--- pages of these kinds, 1 for records, 2 for leaves and 3 for an inner node, that hold these leaf slots and inner nodes
--- one after another
+-- pages of these kinds, 1 for records, 2 for leaves and 3 for an inner node, that hold these leaf
+-- slots and inner nodes one after another
 abbrev pub pages_with : List ℕ → List (List LeafRow) → List (List InnerRow) → List NodePage
 pages_with [] leaves inners = []
 pages_with (kind ∷ kinds) leaves inners =

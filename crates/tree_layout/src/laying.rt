@@ -1,9 +1,10 @@
 //! The layout of the nodes of a tree.
 
 ghost use Rattle.std.specs.Prelude.{◌≡◌, ◌+◌, ◌<◌, ◌≤◌, ◌^◌, length, map, IfOk};
-ghost use Rattle.tree_layout.specs.Layouts.{laid_of};
+ghost use Rattle.tree_layout.specs.Layouts.{tagged, laid_of};
 
-use mtree_node::Shapes;
+use mtree_node::{Shape, Shapes};
+use node_places::{NodeSlots, Tagged, kinds_after, node_slots, refs_after};
 use std::alloc::{AllocError, Global};
 
 /// Where the nodes of a tree stand: by leaf slot and by inner page the number of the node, counted
@@ -14,6 +15,33 @@ pub struct Layout {
     pub inners: Vec<u32>,
     pub kinds: Vec<u8>,
     pub refs: Vec<u32>,
+}
+
+/// Whether a node is a leaf, and its tag.
+fn tagged(shape: &Shape) -> Tagged
+    ensures { result ≡ tagged shape.now }
+{
+    match shape {
+        Shape::Leaf { tag, rows: _ } => Tagged {
+            leaf: true,
+            tag: *tag,
+        },
+        Shape::Inner { tag, rows: _ } => Tagged {
+            leaf: false,
+            tag: *tag,
+        },
+    }
+}
+
+/// The same of each node.
+fn tagged_nodes(alloc: Global, shapes: &Shapes) -> Result<Vec<Tagged>, AllocError>
+    ensures { IfOk result (λ v. v.items ≡ map tagged shapes.now) }
+{
+    let mut nodes = Vec::new(alloc);
+    for shape in shapes.as_slice() {
+        nodes.push(tagged(shape))?;
+    }
+    Ok(nodes)
 }
 
 /// Where the nodes of a tree stand after a save, where the body pages had these kinds and the
@@ -40,5 +68,16 @@ pub fn lay(
     ensures refs { IfOk result
         (λ l. l.refs.items ≡ (laid_of kinds.now records shapes.now).refs) }
 {
-    Err(AllocError)
+    let nodes = tagged_nodes(alloc, shapes)?;
+    let slots = node_slots(alloc, kinds, &nodes)?;
+    let pages = slots.leaves.len() / 63;
+    let after = kinds_after(alloc, kinds, records, pages, slots.inners.len())?;
+    let refs = refs_after(alloc, &after, &slots, &nodes)?;
+    let NodeSlots { leaves, inners } = slots;
+    Ok(Layout {
+        leaves,
+        inners,
+        kinds: after,
+        refs,
+    })
 }

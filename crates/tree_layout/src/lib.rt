@@ -7,8 +7,8 @@
 //! its reference and nothing else, and how many pages there are.
 #![tactic(auto)]
 
-mod laying;
 pub mod laws;
+mod laying;
 mod rows;
 #[cfg(test)]
 mod tests;
