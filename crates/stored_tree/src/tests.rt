@@ -1,0 +1,1 @@
+//! Trees that pages hold, and what is refused where a field is wrong.
