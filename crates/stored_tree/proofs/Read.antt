@@ -4,8 +4,8 @@ use Rattle.std.specs.List.{AllByRecursion, AllZip}
 use Rattle.std.specs.Option.{option_map}
 use Rattle.std.specs.Ordering.{nat_cmp}
 use Rattle.std.specs.FinMap as finite
-use Rattle.std.specs.Prelude.{true, nat_eq}
-use Rattle.std.proofs.lemmas.Bool.{cond-true, cond-false}
+use Rattle.std.specs.Prelude.{true, false, nat_eq}
+use Rattle.std.proofs.lemmas.Bool.{cond-true, cond-false, eq-eqb, ne_eqb}
 use Rattle.vec_record.specs.Held.{Rows}
 use Rattle.mtree_node.specs.declared.node.Node.{Node}
 use Rattle.mtree_node.specs.declared.shape.Shape.{Shape}
@@ -17,10 +17,13 @@ use Rattle.mtree_node.proofs.Complete.{trees_come_back}
 use Rattle.mtree_index.specs.Plain.{PlainTree}
 use Rattle.mtree_index.specs.Tree.{contents}
 use Rattle.node_refs.specs.declared.listing.Listed.{Listed}
-use Rattle.node_refs.specs.Faults.{fault_at}
+use Rattle.node_refs.specs.declared.pages.NodePage.{NodePage}
+use Rattle.node_refs.specs.Pages.{is_used}
+use Rattle.node_refs.specs.Listing.{listed}
+use Rattle.node_refs.specs.Faults.{fault_at, first_used}
 use Rattle.node_walks.specs.Alike.{Distance, AreAlike, HaveVectors}
 use Rattle.node_walks.proofs.Walks.{walks_are_alike}
-use Rattle.stored_tree.specs.Reading.{Read, tree_with, tree_of, tree_unless, tree_below, built}
+use Rattle.stored_tree.specs.Reading.{tree_with, tree_of, tree_unless, tree_below, tree_in, empty_unless, built}
 
 -- trees with the same parts are the same
 same_tree : (t x : PlainTree) → t.width ≡ x.width → t.height ≡ x.height → t.root ≡ x.root → t ≡ x
@@ -72,3 +75,27 @@ module _ (width height : ℕ) (nodes : Listed) where
     pub fault_is : (p : BadPlace) → 0 < height → first_failing dist height nodes.shapes rows ≡ Some p → tree_below other width height nodes rows ≡ Err (fault_at width nodes p)
     fault_is p high fails =
         failed_is (walk other height None (start nodes.shapes rows)) p (ap failing (sym same_walk) ∙ sym (first_at height high) ∙ fails)
+
+module _ (dist : Distance) (width height root : ℕ) (pages : List NodePage) (rows : Rows) where
+  -- what is read at the height 0
+  pub at_zero : height ≡ 0 → empty_unless width (first_used pages) ≡ tree_in dist width height root pages rows
+  unfolding tree_in
+  at_zero none = sym (cond-true (nat_eq height 0) _ _ (eq-eqb height 0 none))
+
+  module _ (high : 0 < height) where
+    -- what is read above it, where the root's reference is refused
+    pub at_no_root : is_used height pages root ≡ false → tree_in dist width height root pages rows ≡ Err (1, 36)
+    unfolding tree_in
+    at_no_root no =
+        cond-false (nat_eq height 0) _ _ (ne_eqb height 0 (λ is. omega (arith, high, is))) ∙ cond-false (is_used height pages root) _ _ no
+
+    -- what is read where it names a node
+    pub at_root : (nodes : Listed) → is_used height pages root ≡ true → nodes ≡ listed pages height root → tree_below dist width height nodes rows ≡ tree_in dist width height root pages rows
+    unfolding tree_in
+    at_root nodes yes is =
+        ap (λ (l : Listed). tree_below dist width height l rows) is
+        ∙ sym (cond-false (nat_eq height 0) _ _ (ne_eqb height 0 (λ no. omega (arith, high, no))) ∙ cond-true (is_used height pages root) _ _ yes)
+
+-- the empty tree holds no records
+pub none_held : (t : PlainTree) (width height : ℕ) (rows : Rows) → t ≡ tree_with width 0 None → finite.len rows ≡ 0 → contents t ≡ rows
+none_held t width height rows is none = ap contents is ∙ sym (finite.empty_of_len rows none)

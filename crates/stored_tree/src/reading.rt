@@ -1,7 +1,7 @@
 //! The tree of pages.
 
 ghost use Rattle.std.specs.Prelude.{◌≡◌, ◌↔◌, ◌+◌, ◌*◌, ◌<◌, ◌≤◌, ◌^◌, ℕ, List, Bool, length, IfOk};
-ghost use Rattle.std.specs.Prelude.{Ok, Some, MatchResult};
+ghost use Rattle.std.specs.Prelude.{Ok, None, Some, MatchResult};
 ghost use Rattle.std.specs.List.{AllByRecursion};
 ghost use Rattle.std.specs.FinMap as maps;
 ghost use Rattle.vec_record.specs.Vectors.{IsWidth};
@@ -14,7 +14,8 @@ ghost use Rattle.node_refs.specs.Faults.{first_used, IsInside};
 ghost use Rattle.node_refs.specs.Laws.{places_in, PageHasObjectsIn};
 ghost use Rattle.node_walks.specs.Alike.{AreAlike, HaveVectors};
 ghost use Rattle.tree_objects.specs.Laws.{AllPass, RowsPass, ShapesPass};
-ghost use Rattle.stored_tree.specs.Reading.{empty_unless, tree_below, tree_in, Fails};
+ghost use Rattle.stored_tree.specs.Reading.{empty_unless, tree_with, tree_below, tree_in};
+ghost use Rattle.stored_tree.specs.Reading.{Fails};
 ghost use Rattle.stored_tree.specs.Laws.{PageHasVectors, PagePasses};
 
 use crate::fault::TreeFault;
@@ -37,6 +38,7 @@ fn read_empty<M: Metric>(
     ensures tree { MatchResult result
         (λ t. empty_unless width (first_used pages.now) ≡ Ok t)
         (λ e. Fails e (empty_unless width (first_used pages.now))) }
+    ensures empty { IfOk result (λ t. t ≡ tree_with width 0 None) }
 {
     if let Some((page, offset)) = first_used(pages) {
         return Err(TreeFault::Damaged { page, offset });
