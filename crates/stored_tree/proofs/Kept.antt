@@ -12,11 +12,16 @@ use Rattle.node_refs.specs.declared.pages.NodePage.TheVariants as page
 use Rattle.node_refs.specs.declared.listing.Listed.{Listed}
 use Rattle.node_refs.specs.Pages.{page_at, inner_in, inner_at, is_good, shape_in, shape_at}
 use Rattle.node_refs.specs.Listing.{nothing, child_nodes, placed_rows, nodes_below, node_in, list_node, unreached, standing_at, listed}
-use Rattle.node_refs.proofs.Kept.{all_append, all_get}
+use Rattle.node_refs.proofs.Kept.{all_append}
 use Rattle.node_walks.specs.Alike.{HasObjects}
 use Rattle.tree_objects.specs.Laws.{ShapesPass}
 use Rattle.tree_objects.specs.Objects.{ShapeHasAll}
 use Rattle.stored_tree.specs.Laws.{PageHasVectors, PagePasses}
+
+all_get : {X : Type 0} (P : X → Type 0) (xs : List X) (i : ℕ) (d : X) → P d → AllByRecursion P xs → P (get_or xs i d)
+all_get P [] i d past all = past
+all_get P (x ∷ xs) zero d past all = all.0
+all_get P (x ∷ xs) (suc i) d past all = all_get P xs i d past all.1
 
 module _ (P : List ℕ → Type 0) where
   abbrev IsRow : InnerRow → Type 0

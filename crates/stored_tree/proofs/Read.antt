@@ -1,10 +1,10 @@
 -- What a walk over listed nodes means for the tree that is read.
-use Rattle.std.proofs.Common.{◌≡◌, ℕ, zero, suc, ◌<◌, List, [], length, get_or, slice_index, Option, Some, None, Ok, Err, refl, sym, ap, subst, ◌∙◌, arith}
+use Rattle.std.proofs.Common.{◌≡◌, ◌↔◌, ℕ, zero, suc, ◌<◌, List, [], length, get_or, slice_index, Option, Some, None, Ok, Err, refl, sym, ap, subst, ◌∙◌, arith}
 use Rattle.std.specs.List.{AllByRecursion, AllZip}
 use Rattle.std.specs.Option.{option_map}
 use Rattle.std.specs.Ordering.{nat_cmp}
 use Rattle.std.specs.FinMap as finite
-use Rattle.std.specs.Prelude.{true, false, nat_eq}
+use Rattle.std.specs.Prelude.{true, false, nat_eq, Result, IfOk}
 use Rattle.std.proofs.lemmas.Bool.{cond-true, cond-false, eq-eqb, ne_eqb}
 use Rattle.vec_record.specs.Held.{Rows}
 use Rattle.mtree_node.specs.declared.node.Node.{Node}
@@ -86,16 +86,22 @@ module _ (dist : Distance) (width height root : ℕ) (pages : List NodePage) (ro
     -- what is read above it, where the root's reference is refused
     pub at_no_root : is_used height pages root ≡ false → tree_in dist width height root pages rows ≡ Err (1, 36)
     unfolding tree_in
-    at_no_root no =
-        cond-false (nat_eq height 0) _ _ (ne_eqb height 0 (λ is. omega (arith, high, is))) ∙ cond-false (is_used height pages root) _ _ no
+    at_no_root refused =
+        cond-false (nat_eq height 0) _ _ (ne_eqb height 0 (λ is. omega (arith, high, is))) ∙ cond-false (is_used height pages root) _ _ refused
 
     -- what is read where it names a node
     pub at_root : (nodes : Listed) → is_used height pages root ≡ true → nodes ≡ listed pages height root → tree_below dist width height nodes rows ≡ tree_in dist width height root pages rows
     unfolding tree_in
-    at_root nodes yes is =
+    at_root nodes used is =
         ap (λ (l : Listed). tree_below dist width height l rows) is
-        ∙ sym (cond-false (nat_eq height 0) _ _ (ne_eqb height 0 (λ no. omega (arith, high, no))) ∙ cond-true (is_used height pages root) _ _ yes)
+        ∙ sym (cond-false (nat_eq height 0) _ _ (ne_eqb height 0 (λ none. omega (arith, high, none))) ∙ cond-true (is_used height pages root) _ _ used)
 
 -- the empty tree holds no records
-pub none_held : (t : PlainTree) (width height : ℕ) (rows : Rows) → t ≡ tree_with width 0 None → finite.len rows ≡ 0 → contents t ≡ rows
-none_held t width height rows is none = ap contents is ∙ sym (finite.empty_of_len rows none)
+pub none_held : {E : Type 0} (read : Result PlainTree E) (width : ℕ) (rows : Rows) → finite.len rows ≡ 0 → IfOk read (λ t. t ≡ tree_with width 0 None) → IfOk read (λ t. contents t ≡ rows)
+none_held (Ok t) width rows none is = ap contents is ∙ sym (finite.empty_of_len rows none)
+none_held (Err e) width rows none is = tt
+
+-- there are records above the height 0
+pub some_rows : (height rows : ℕ) → 0 < height → ((height ≡ 0) ↔ (rows ≡ 0)) → 0 < rows
+some_rows height zero high same = absurd (let none : height ≡ 0 = same.1 refl in omega (arith, high, none))
+some_rows height (suc rows) high same = omega arith
