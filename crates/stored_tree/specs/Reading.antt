@@ -52,7 +52,7 @@ unfoldable pub tree_in :
 tree_in dist width height root pages vectors =
     if height == 0 then empty_unless width (first_used pages)
     else if is_used height pages root then
-      tree_below dist width height (listed pages height root) vectors
+    tree_below dist width height (listed pages height root) vectors
     else Err (1, 36)
 
 -- a refusal is the one that is due; want of memory is free

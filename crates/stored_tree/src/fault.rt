@@ -1,6 +1,5 @@
 //! Why no tree is read.
 
-use mtree_node::BuildFault;
 use std::alloc::AllocError;
 
 /// Why pages hold no tree of the records.
