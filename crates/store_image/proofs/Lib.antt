@@ -1,0 +1,3 @@
+pub mod StoreReading
+pub mod StoreRefusals
+pub mod StoreContents
