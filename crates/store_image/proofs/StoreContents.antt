@@ -2,7 +2,7 @@
 use Rattle.std.proofs.Common.{◌≡◌, inl, inr, ℕ, ◌/◌, Bool, true, false, ◌&&◌, cond, leb, List, [], ◌∷◌, length, map, drop, get_or, Option, Some, None, Result, Ok, refl, sym, ◌∙◌, ap, subst, arith}
 use Rattle.std.specs.Prelude.{◌==◌}
 use Rattle.std.specs.List.{flat_map}
-use Rattle.std.proofs.lemmas.Bool.{eq-eqb}
+use Rattle.std.proofs.lemmas.Bool.{eq-eqb, le-leb}
 use Rattle.std.specs.FinMap as maps
 use Rattle.vec_record.specs.Distance.{distance_of}
 use Rattle.vec_record.specs.Limits.{width_of}
@@ -17,9 +17,10 @@ use Rattle.page_layout.specs.Slots.{Rows}
 use Rattle.page_layout.specs.Laws.{HeadsHaveOneSpelling, WrittenArePages}
 use Rattle.page_layout.proofs.Facts.{height_alike}
 use Rattle.store_image.specs.declared.fault.StoreFault.{StoreFault}
+use Rattle.store_image.specs.declared.fault.StoreFault.TheVariants.{Damaged}
 use Rattle.store_image.specs.Contents.{all_slots}
 use Rattle.store_image.specs.Images.{Image, image_with, vectors_of, held_in, kept_in}
-use Rattle.store_image.specs.Loading.{and_then, unless, in_page, in_tree, tree_on, checked, image_of_parts, head_in_pages, load_of}
+use Rattle.store_image.specs.Loading.{and_then, are_few, record_limit, leaf_limit, inner_limit, unless, in_page, in_tree, tree_on, checked, image_of_parts, head_in_pages, load_of}
 use Rattle.store_image.specs.Stores.{values_in_pages, slots_if_any, slots_in_pages, refusal_of, verdict, records_by, batches_by, params_by, AreDueIn, AreDueBy, AreDueOn, refusal_on, records_on, batches_on, params_on, IsSound, IsStore, IsNew, new_image, SameOpeningsAreAlike, LoadsAreStores, NewStoresLoad, NewStoresAreDue, HeadsCountPages}
 use Rattle.store_image.proofs.StoreReading.{Loads, load_parts, load_is, no_bodies, read_head_is, head_read, bodies_slots, head_in_is}
 
@@ -138,12 +139,20 @@ flat_tree : (dist : List ℕ → List ℕ → ℕ) (width height root : ℕ) →
 unfolding tree_in
 flat_tree dist width height root flat = rw flat refl
 
+few_pages : (v : Values) → are_few v [] ≡ true
+few_pages v =
+    let a = le-leb 0 (record_limit v) (omega arith) in
+    let b = le-leb 0 (leaf_limit v) (omega arith) in
+    let c = le-leb 0 (inner_limit v) (omega arith) in
+    rw (a, b, c) refl
+
 new_checked : (h : HeadValue) → h.count ≡ 0 → h.height ≡ 0 → checked h [] ≡ Ok (new_image h)
 new_checked h none flat =
     let width = width_of h.values.metric h.values.dim in
     let tree : tree_on h [] maps.empty ≡ Ok (tree_with width 0 None) = ap in_tree (flat_tree (distance_of h.values.metric) width h.height h.root flat) in
     let last : Result Image StoreFault = and_then (tree_on h [] maps.empty) (image_of_parts h []) in
-    ap (λ (b : Bool). unless b _ last) (eq-eqb 0 h.count (sym none)) ∙ ap (λ r. and_then r (image_of_parts h [])) tree
+    let counted : Result Image StoreFault = unless (0 == h.count) (Damaged 1 32) last in
+    ap (λ (b : Bool). unless b (Damaged 1 0) counted) (few_pages h.values) ∙ ap (λ (b : Bool). unless b (Damaged 1 32) last) (eq-eqb 0 h.count (sym none)) ∙ ap (λ r. and_then r (image_of_parts h [])) tree
 
 pub new_stores_load : HeadsHaveOneSpelling → WrittenArePages → NewStoresLoad
 new_stores_load heads written h new =
