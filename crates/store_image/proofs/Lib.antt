@@ -1,3 +1,5 @@
 pub mod StoreReading
 pub mod StoreRefusals
 pub mod StoreContents
+pub mod StoreHung
+pub mod StoreWalks
