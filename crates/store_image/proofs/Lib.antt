@@ -3,3 +3,6 @@ pub mod StoreRefusals
 pub mod StoreContents
 pub mod StoreHung
 pub mod StoreWalks
+pub mod StoreNumbers
+pub mod StoreLawful
+pub mod StoreDue

@@ -76,7 +76,7 @@ pub no_bodies : (v : Values) (page : ℕ) → bodies_in v page [] ≡ Ok []
 unfolding bodies_in
 no_bodies v page = refl
 
-none_of : (v : Values) (page : ℕ) (bodies : List Body) → bodies_in v page [] ≡ Ok bodies → bodies ≡ []
+pub none_of : (v : Values) (page : ℕ) (bodies : List Body) → bodies_in v page [] ≡ Ok bodies → bodies ≡ []
 none_of v page bodies is = same_ok [] bodies (sym (no_bodies v page) ∙ is)
 
 -- a first body page and others
