@@ -197,7 +197,7 @@ module _ (v : Values) (slots : Rows) (tree : PlainTree) (lawful : AllByRecursion
       let has_form = form v.minpts (lines_of slots) are_lines tied in
       record {
         fits = record {
-          held = record { same_width = holds.width; same_pairs = holds.contents };
+          held = record { same_width = holds.wide; same_pairs = holds.contents };
           numbers = λ a. ap is_some (get_rows (lines_of slots) a) ∙ row_there (line_with (lines_of slots) a) ∙ sym (vectors_there d (vectors_of slots) (lines_of slots) are_lines found_there a);
           counted = has_form.counted;
           unhung = has_form.unhung;

@@ -139,7 +139,7 @@ module _ (dist : List ℕ → List ℕ → ℕ) where
 
 -- a tree of this width that holds exactly these records
 pub record Holds (width : ℕ) (vectors : held.Rows) (tree : PlainTree) : Type 0 where
-  pub width : tree.width ≡ width
+  pub wide : tree.width ≡ width
   pub contents : contents tree ≡ vectors
 
 same_tree : (x y : PlainTree) → ◌≡◌ {A = Read} (Ok x) (Ok y) → x ≡ y
@@ -156,7 +156,7 @@ module _ (dist : List ℕ → List ℕ → ℕ) (width height : ℕ) where
     where
       by_rest : (o : Option BadPlace) → finite.len s.left ≡ 0 → tree_unless width height nodes (Some n) o ≡ Ok tree → Holds width vectors tree
       by_rest None none is =
-          subst (Holds width vectors) (same_tree (tree_with width height (Some n)) tree is) (record { width = refl; contents = all_named nodes.shapes vectors n s walk_is none })
+          subst (Holds width vectors) (same_tree (tree_with width height (Some n)) tree is) (record { wide = refl; contents = all_named nodes.shapes vectors n s walk_is none })
       by_rest (Some p) none is = absurd (let no_tree : tree_unless width height nodes (Some n) (Some p) ≡ Ok tree = is in cc)
 
       by_left : (b : Bool) → nat_eq (finite.len s.left) 0 ≡ b → tree_unless width height nodes (Some n) (cond b (unreached s.next s.rest) (Some (bad_place 0 0 bad.Missing))) ≡ Ok tree → Holds width vectors tree
@@ -164,7 +164,7 @@ module _ (dist : List ℕ → List ℕ → ℕ) (width height : ℕ) where
       by_left false some is = absurd (let no_tree : tree_unless width height nodes (Some n) (Some (bad_place 0 0 bad.Missing)) ≡ Ok tree = is in cc)
 
   of_none : (vectors : held.Rows) (tree : PlainTree) (o : Option (ℕ × ℕ)) → vectors ≡ finite.empty → empty_unless width o ≡ Ok tree → Holds width vectors tree
-  of_none vectors tree None none is = subst (Holds width vectors) (same_tree (tree_with width 0 None) tree is) (record { width = refl; contents = sym none })
+  of_none vectors tree None none is = subst (Holds width vectors) (same_tree (tree_with width 0 None) tree is) (record { wide = refl; contents = sym none })
   of_none vectors tree (Some place) none is = absurd (let no_tree : empty_unless width (Some place) ≡ Ok tree = is in cc)
 
   -- a tree that is read holds exactly the records, where there are none at the height 0
