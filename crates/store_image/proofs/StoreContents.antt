@@ -1,27 +1,24 @@
 -- The laws of contents as stores.
-use Rattle.std.proofs.Common.{◌≡◌, inl, inr, ℕ, ◌/◌, Bool, true, false, ◌&&◌, cond, leb, List, [], ◌∷◌, length, map, drop, get_or, Option, Some, None, Result, Ok, refl, sym, ◌∙◌, ap, subst, arith}
+use Rattle.std.proofs.Common.{◌≡◌, inl, inr, ℕ, ◌/◌, Bool, true, false, ◌&&◌, leb, List, [], ◌∷◌, length, drop, get_or, Option, Some, None, Result, Ok, refl, sym, ◌∙◌, ap, subst, arith}
 use Rattle.std.specs.Prelude.{◌==◌}
 use Rattle.std.specs.List.{flat_map}
 use Rattle.std.proofs.lemmas.Bool.{eq-eqb, le-leb}
 use Rattle.std.specs.FinMap as maps
 use Rattle.vec_record.specs.Distance.{distance_of}
 use Rattle.vec_record.specs.Limits.{width_of}
-use Rattle.mtree_index.specs.Plain.{PlainTree}
-use Rattle.node_refs.specs.declared.pages.NodePage.{NodePage}
-use Rattle.stored_tree.specs.Reading.{Read, tree_in, tree_with}
+use Rattle.stored_tree.specs.Reading.{tree_in, tree_with}
 use Rattle.page_gate.specs.declared.fault.OpenFault.TheVariants.{Blank}
-use Rattle.page_gate.specs.Gate.{number_4, is_blank, blank_by, is_signed, first_set, is_open, fits, redo_start, redo_count, gate_of, begun_gate, signed_gate, behind_zeros, redo_gate, items, rises, page_of, count_of, counts, list_of, listed_by, listed, taken_by, through, opening, Opening, Refuses, Opens}
-use Rattle.page_layout.specs.declared.body.Body.{Body}
-use Rattle.page_layout.specs.Heads.{Values, HeadValue, IsHead, head_of, head_in, head_page, values_in}
+use Rattle.page_gate.specs.Gate.{number_4, is_blank, blank_by, is_signed, first_set, is_open, fits, redo_start, redo_count, gate_of, begun_gate, signed_gate, behind_zeros, redo_gate, items, rises, page_of, count_of, counts, list_of, listed_by, listed, taken_by, through, opening, Refuses, Opens}
+use Rattle.page_layout.specs.Heads.{Values, HeadValue, head_of, head_in, head_page, values_in}
 use Rattle.page_layout.specs.Slots.{Rows}
 use Rattle.page_layout.specs.Laws.{HeadsHaveOneSpelling, WrittenArePages}
 use Rattle.page_layout.proofs.Facts.{height_alike}
 use Rattle.store_image.specs.declared.fault.StoreFault.{StoreFault}
 use Rattle.store_image.specs.declared.fault.StoreFault.TheVariants.{Damaged}
 use Rattle.store_image.specs.Contents.{all_slots}
-use Rattle.store_image.specs.Images.{Image, image_with, vectors_of, held_in, kept_in}
-use Rattle.store_image.specs.Loading.{and_then, are_few, record_limit, leaf_limit, inner_limit, unless, in_page, in_tree, tree_on, checked, image_of_parts, head_in_pages, load_of}
-use Rattle.store_image.specs.Stores.{values_in_pages, slots_if_any, slots_in_pages, refusal_of, verdict, records_by, batches_by, params_by, AreDueIn, AreDueBy, AreDueOn, refusal_on, records_on, batches_on, params_on, IsSound, IsStore, IsNew, new_image, SameOpeningsAreAlike, LoadsAreStores, NewStoresLoad, NewStoresAreDue, HeadsCountPages}
+use Rattle.store_image.specs.Images.{Image, vectors_of}
+use Rattle.store_image.specs.Loading.{and_then, are_few, record_limit, leaf_limit, inner_limit, unless, in_page, in_tree, tree_on, checked, image_of_parts, load_of}
+use Rattle.store_image.specs.Stores.{values_in_pages, slots_if_any, slots_in_pages, refusal_of, verdict, records_by, batches_by, params_by, AreDueIn, AreDueBy, AreDueOn, refusal_on, records_on, batches_on, params_on, IsSound, IsStore, new_image, SameOpeningsAreAlike, LoadsAreStores, NewStoresLoad, NewStoresAreDue, HeadsCountPages}
 use Rattle.store_image.proofs.StoreReading.{Loads, load_parts, load_is, no_bodies, read_head_is, head_read, bodies_slots, head_in_is}
 
 -- what each says is a function of the opening

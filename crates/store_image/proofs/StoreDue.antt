@@ -12,16 +12,14 @@ use Rattle.vec_record.specs.Held as held
 use Rattle.vec_record.specs.Distance.{distance_of}
 use Rattle.vec_record.specs.Limits.{width_of}
 use Rattle.mtree_index.specs.Plain.{PlainTree}
-use Rattle.mtree_index.specs.Tree.{contents}
 use Rattle.stored_tree.specs.Reading.{Read, tree_in}
 use Rattle.plain_dbscan.specs.Marks.{Density, Entries, is_core, size_of, cluster_of, anchor_of}
 use Rattle.plain_dbscan.proofs.CoresOf.{anchor_is}
 use Rattle.count_book.specs.declared.row.Row.{Row}
 use Rattle.count_book.specs.Counted.{row_of}
-use Rattle.update_seed.specs.Books.{row_due, label_due, AreLabelsDue, StandsFor}
+use Rattle.update_seed.specs.Books.{row_due, label_due, AreLabelsDue}
 use Rattle.stored_lines.specs.declared.line.Line.{Line}
 use Rattle.stored_lines.specs.Lines.{IsLine, AreLines, AreOnce, line_with, number_of as line_number, row_in, rows_of, labels_of, named_by, first_loose}
-use Rattle.stored_lines.specs.Laws.{counts_of}
 use Rattle.stored_lines.proofs.Looked.{found_each, found_between, get_rows, get_labels, label_in}
 use Rattle.stored_lines.proofs.Form.{form}
 use Rattle.kept_clusters.specs.Kept.{Stand}
@@ -30,11 +28,10 @@ use Rattle.page_layout.specs.Heads.{Values, HeadValue, head_in}
 use Rattle.page_layout.specs.Slots.{Rows}
 use Rattle.page_layout.proofs.HeadLaws.{lawful_fields}
 use Rattle.page_layout.proofs.Facts.{height_alike}
-use Rattle.store_image.specs.declared.fault.StoreFault.{StoreFault}
 use Rattle.store_image.specs.Clustered.{density_on, line_due, AreDue}
 use Rattle.store_image.specs.Contents.{all_slots, node_pages}
 use Rattle.store_image.specs.Images.{Image, number_of, entry_of, vectors_of, lines_of, kept_in, held_in}
-use Rattle.store_image.specs.Loading.{first_repeated, in_tree, tree_on}
+use Rattle.store_image.specs.Loading.{first_repeated, in_tree}
 use Rattle.store_image.specs.Stores.{slots_in_pages, AreDueIn, DueLinesStand}
 use Rattle.store_image.proofs.StoreReading.{Loads, load_parts, read_head_is, head_read}
 use Rattle.store_image.proofs.StoreContents.{said}

@@ -1,6 +1,5 @@
 -- Clusters that stand for records hang on cores.
-use Rattle.std.proofs.Common.{◌≡◌, ℕ, ◌≤◌, Bool, true, false, cond, ◌&&◌, List, Option, Some, None, IsTrue, refl, sym, ◌∙◌, ap, subst}
-use lib.Dec.{T}
+use Rattle.std.proofs.Common.{◌≡◌, ℕ, ◌≤◌, Bool, true, false, cond, Option, Some, None, refl, sym, ◌∙◌, ap, subst}
 use Rattle.std.specs.Prelude.{nat_le, is_some, IsSomeAnd}
 use Rattle.std.specs.Ordering.{nat_cmp}
 use Rattle.std.specs.FinMap as maps
@@ -11,10 +10,10 @@ use Rattle.plain_dbscan.specs.Marks.{Density, Entries, is_core, size_of, anchor_
 use Rattle.plain_dbscan.proofs.CoresOf.{anchor_is}
 use Rattle.count_book.specs.declared.row.Row.{Row}
 use Rattle.count_book.specs.Counted.{Counted, IsCore, row_of}
-use Rattle.update_seed.specs.Books.{row_due, StandsFor}
+use Rattle.update_seed.specs.Books.{row_due}
 use Rattle.stored_lines.specs.Laws.{AreHung}
 use Rattle.mtree_index.specs.Tree.{contents}
-use Rattle.kept_clusters.specs.Kept.{Kept, Stand, density_in}
+use Rattle.kept_clusters.specs.Kept.{density_in}
 use Rattle.store_image.specs.Stores.{StandingAreHung}
 
 -- the anchor of a row that is due

@@ -1,16 +1,15 @@
 -- The grammar of a record page has checked what a line must be.
-use Rattle.std.proofs.Common.{◌≡◌, inl, inr, ℕ, zero, suc, ◌+◌, ◌-◌, ◌<◌, ◌≤◌, Bool, true, false, cond, List, [], ◌∷◌, ◌++◌, map, get_or, Option, Some, None, Ok, refl, sym, ◌∙◌, ap, subst, arith}
+use Rattle.std.proofs.Common.{◌≡◌, inl, inr, ℕ, zero, suc, ◌+◌, ◌-◌, ◌≤◌, Bool, true, false, cond, List, [], ◌∷◌, ◌++◌, map, get_or, None, Ok, refl, sym, ◌∙◌, ap, subst, arith}
 use Rattle.std.specs.Prelude.{◌==◌, nat_le}
-use Rattle.std.specs.List.{flat_map, range_with_len, AllByRecursion}
+use Rattle.std.specs.List.{range_with_len, AllByRecursion}
 use Rattle.std.proofs.lemmas.Bool.{cases_Bool, leb-true, le-leb, eqb-true, eqb-false, and_parts}
 use Rattle.vec_record.specs.Limits.{is_between, width_of}
 use Rattle.vec_record.specs.Spelled.{is_spelled}
 use Rattle.page_gate.specs.Gate.{part, number_4}
-use Rattle.page_layout.specs.declared.slot.Slot.{Slot}
 use Rattle.page_layout.specs.declared.body.Body.{Body}
 use Rattle.page_layout.specs.Fields.{Field, first_bad, zero_fields}
 use Rattle.page_layout.specs.Heads.{Values}
-use Rattle.page_layout.specs.Slots.{Rows, is_anchor, is_label, slot_at, slot_fields, slot_in, slots_fields, slots_in_page, record_fields, rows_in, rows_of_page}
+use Rattle.page_layout.specs.Slots.{is_anchor, is_label, slot_at, slot_fields, slot_in, slots_fields, slots_in_page, record_fields, rows_in}
 use Rattle.page_layout.specs.Bodies.{body_of}
 use Rattle.page_layout.proofs.Places.{first_lawful}
 use Rattle.page_layout.proofs.Runs.{both_lawful}

@@ -1,10 +1,10 @@
 -- Numbers by slot, each but 0 once, and the lines and records that slots say.
-use Rattle.std.proofs.Common.{◌≡◌, ◌⊎◌, inl, inr, ⊎_elim, ℕ, ◌+◌, ◌≤◌, Bool, true, false, cond, not, ◌||◌, ◌&&◌, List, [], ◌∷◌, ◌++◌, length, map, take, get_or, Option, Some, None, refl, sym, ◌∙◌, ap, subst, arith, length-append, append_assoc}
+use Rattle.std.proofs.Common.{◌≡◌, ◌⊎◌, inl, inr, ⊎_elim, ℕ, ◌+◌, Bool, true, false, cond, not, ◌||◌, ◌&&◌, List, [], ◌∷◌, ◌++◌, length, map, take, get_or, Option, Some, None, refl, sym, ◌∙◌, ap, subst, arith, length-append, append_assoc}
 use Rattle.std.specs.Prelude.{◌==◌, is_some, count_by}
 use Rattle.std.specs.List.{list_any, find, range_with_len, flat_map, AllByRecursion}
 use Rattle.std.specs.Ordering.{nat_cmp, eq_by_cmp}
 use Rattle.std.specs.FinMap.Entries.{find as value_at}
-use Rattle.std.proofs.lemmas.Bool.{cases_Bool, cases_eq, cases_order, eqb-true, eq-eqb, ne_eqb, lt-ltb, le-ltb, false≢true, or_parts, or_left}
+use Rattle.std.proofs.lemmas.Bool.{cases_Bool, cases_eq, cases_order, eqb-true, eq-eqb, ne_eqb, lt-ltb, le-ltb, false≢true, or_parts}
 use Rattle.std.proofs.lemmas.List.{get_or_at, take_at}
 use Rattle.std.proofs.lemmas.List.Folds.{list_any-append}
 use Rattle.page_layout.specs.declared.slot.Slot.{Slot}
@@ -12,7 +12,7 @@ use Rattle.page_layout.specs.Slots.{Rows}
 use Rattle.stored_lines.specs.declared.line.Line.{Line}
 use Rattle.stored_lines.specs.Lines.{IsLine, AreLines, AreOnce, line_with, number_of as line_number}
 use Rattle.stored_lines.proofs.Numbers.{counted_here, counted_not}
-use Rattle.store_image.specs.Images.{number_of, entry_of, line_of, lines_of}
+use Rattle.store_image.specs.Images.{number_of, entry_of, lines_of}
 use Rattle.store_image.specs.Loading.{is_repeated, first_repeated}
 
 -- whether a number stands in a list

@@ -1,5 +1,5 @@
 -- What is read of pages, part by part.
-use Rattle.std.proofs.Common.{◌≡◌, ℕ, ◌+◌, ◌≤◌, Bool, true, false, cond, List, [], ◌∷◌, ◌++◌, length, map, drop, get_or, Option, Some, None, Result, Ok, Err, refl, sym, ◌∙◌, ap, subst}
+use Rattle.std.proofs.Common.{◌≡◌, ℕ, ◌+◌, Bool, true, false, cond, List, [], ◌∷◌, ◌++◌, length, map, drop, get_or, Option, Some, None, Result, Ok, Err, refl, sym, ◌∙◌, ap, subst}
 use Rattle.std.specs.Prelude.{◌==◌}
 use Rattle.std.specs.List.{flat_map}
 use Rattle.vec_record.specs.Limits.{width_of}
@@ -204,7 +204,15 @@ checks_passed pages image h bodies head read is =
     let tied = tied_passed width kinds numbers (first_loose h.values.minpts (lines_of slots)) last image count.1 in
     let tree = went (tree_on h (node_pages bodies) (vectors_of slots)) (image_of_parts h slots) image tied.1 in
     record {
-      h = h; bodies = bodies; tree = tree.value; head = head; read = read; once = once.0; count = count.0; tied = tied.0; tree_is = tree.first;
+      h = h;
+      bodies = bodies;
+      tree = tree.value;
+      head = head;
+      read = read;
+      once = once.0;
+      count = count.0;
+      tied = tied.0;
+      tree_is = tree.first;
       image_is = same_ok (image_with h (held_in h.values slots) (kept_in h.values slots tree.value)) image tree.then_is;
     }
 

@@ -2,8 +2,6 @@
 use Rattle.std.proofs.Common.{◌≡◌, ℕ, ◌/◌, ◌+◌, ◌==◌, Bool, true, false, ◌&&◌, cond, leb, List, [], ◌∷◌, length, map, drop, get_or, Option, Some, None, IfSome, IfErr, Result, Ok, Err, refl, subst}
 use Rattle.vec_record.specs.Held as held
 use Rattle.vec_record.specs.Limits.{width_of}
-use Rattle.mtree_index.specs.Plain.{PlainTree}
-use Rattle.mtree_node.specs.Preorder.{LeafRow, InnerRow}
 use Rattle.node_refs.specs.declared.pages.NodePage.{NodePage}
 use Rattle.stored_tree.specs.Reading.{Read}
 use Rattle.stored_lines.specs.declared.fault.Loose.{Loose}
@@ -16,7 +14,7 @@ use Rattle.page_layout.specs.declared.body.Body.{Body}
 use Rattle.page_layout.specs.declared.body.Body.TheVariants as body
 use Rattle.page_layout.specs.Fields.{first_bad, unless_bad}
 use Rattle.page_layout.specs.Heads.{Values, HeadValue, head_fields, head_in, head_of, known_version}
-use Rattle.page_layout.specs.Slots.{Rows, record_fields, rows_in, rows_of_page}
+use Rattle.page_layout.specs.Slots.{record_fields, rows_in, rows_of_page}
 use Rattle.page_layout.specs.Leaves.{leaves_of, leaf_fields, leaves_in}
 use Rattle.page_layout.specs.Inner.{inner_of, inner_fields, inner_rows_in}
 use Rattle.page_layout.specs.Bodies.{as_body, body_of}

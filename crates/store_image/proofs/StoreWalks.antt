@@ -1,6 +1,6 @@
 -- What a tree that is read holds: exactly the records that its walk named.
-use Rattle.std.proofs.Common.{◌≡◌, ℕ, zero, suc, Bool, true, false, cond, if◌then◌else◌, List, [], ◌∷◌, ◌++◌, length, map, Option, Some, None, Result, Ok, Err, refl, sym, ap, subst, ◌∙◌}
-use Rattle.std.specs.Prelude.{◌==◌, nat_eq, ◌&&◌}
+use Rattle.std.proofs.Common.{◌≡◌, ℕ, zero, suc, Bool, true, false, cond, if◌then◌else◌, List, [], ◌∷◌, Option, Some, None, Ok, Err, refl, sym, ap, subst}
+use Rattle.std.specs.Prelude.{◌==◌, nat_eq}
 use Rattle.std.specs.List.{flat_map}
 use Rattle.std.specs.FinMap as finite
 use Rattle.std.proofs.lemmas.Bool.{eqb-true}
@@ -14,7 +14,7 @@ use Rattle.mtree_node.specs.declared.shape.Shape.TheVariants as shape
 use Rattle.mtree_node.specs.declared.shape.BadPlace.{BadPlace}
 use Rattle.mtree_node.specs.declared.shape.BadWhat.TheVariants as bad
 use Rattle.mtree_node.specs.Layer.{Layer, EntryLayer}
-use Rattle.mtree_node.specs.Tree.{leaves, leaves_in, record_of}
+use Rattle.mtree_node.specs.Tree.{leaves, leaves_in}
 use Rattle.mtree_node.specs.Preorder.{LeafRow, InnerRow}
 use Rattle.mtree_node.specs.Walk.{Standing, Walked, Fails, Builds, go_on, walk_all, walk, walk_in, walk_leaf_row, walk_inner_row, named, covered, walk_shape, start, unreached, bad_place}
 use Rattle.mtree_node.proofs.Opened.{out_inner, out_leaf, out_roll}
