@@ -43,7 +43,7 @@ pub(crate) fn find_head(pages: &Pages) -> Result<Head, StoreFault>
 {
     match pages.page(1) {
         Some(page) => head_of(page),
-        None => Err(StoreFault::Damaged { page: 1, offset: 0 }),
+        None => Err(StoreFault::Foreign),
     }
 }
 

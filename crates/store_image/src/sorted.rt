@@ -13,7 +13,7 @@ ghost use Rattle.store_image.specs.Loading.{Fails};
 ghost use Rattle.store_image.specs.inside.Reads.{repeats, parted, MayRepeat, Taking, Took};
 ghost use Rattle.store_image.specs.inside.Reads.{ArePartsOf};
 
-use crate::contents::take_apart;
+use crate::contents::{Contents, take_apart};
 use crate::fault::StoreFault;
 use crate::finding::{are_few, slot_fault};
 use node_refs::NodePage;
@@ -181,16 +181,20 @@ pub(crate) fn sort_bodies(
     ensures { MatchResult result (ArePartsOf (values_of params.now) bodies.items)
         (λ e. Fails e (parted (values_of params.now) bodies.items)) }
 {
-    let contents = take_apart(alloc, bodies)?;
-    if !are_few(params, &contents.kinds) {
+    let Contents {
+        kinds,
+        slots,
+        nodes,
+    } = take_apart(alloc, bodies)?;
+    if !are_few(params, &kinds) {
         return Err(StoreFault::Damaged { page: 1, offset: 0 });
     }
-    let taken = take_slots(alloc, params, &contents.kinds, contents.slots)?;
+    let taken = take_slots(alloc, params, &kinds, slots)?;
     Ok(Sorted {
-        kinds: contents.kinds,
+        kinds,
         numbers: taken.numbers,
         lines: taken.lines,
-        nodes: contents.nodes,
+        nodes,
         records: taken.records,
     })
 }

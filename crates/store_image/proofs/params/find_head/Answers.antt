@@ -3,7 +3,7 @@ use Rattle.std.proofs.lemmas.List.{get_or_past}
 use Rattle.page_layout.specs.Heads.{HeadValue, plain, head_of}
 use Rattle.store_image.specs.declared.fault.StoreFault.{StoreFault}
 use Rattle.store_image.specs.Loading.{in_page, head_in_pages}
-use Rattle.store_image.proofs.Reading.{head_in_is, no_head}
+use Rattle.store_image.proofs.LoadReading.{head_in_is, no_head}
 use Rattle.store_image.proofs.params.find_head.Goals as goal
 
 pub returns-in-Some-clause-head : goal.returns-in-Some-clause-head
