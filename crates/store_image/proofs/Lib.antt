@@ -5,3 +5,5 @@ pub mod LoadApart
 pub mod LoadTaking
 pub mod LoadParts
 pub mod LoadFinding
+pub mod LoadChecks
+pub mod LoadFacts
