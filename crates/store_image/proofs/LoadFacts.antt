@@ -1,20 +1,20 @@
 -- What is known of parts of body pages, and of what is kept by them.
-use Rattle.std.proofs.Common.{◌≡◌, inl, inr, ℕ, suc, ◌+◌, ◌-◌, ◌*◌, ◌/◌, ◌%◌, ◌<◌, ◌≤◌, ◌^◌, ◌&&◌, Bool, true, false, cond, List, [], ◌∷◌, ◌++◌, length, map, Option, Some, None, refl, sym, ◌∙◌, ap, subst, arith, IsTrue}
+use Rattle.std.proofs.Common.{◌≡◌, inl, inr, ℕ, zero, suc, replicate, ◌+◌, ◌-◌, ◌*◌, ◌/◌, ◌%◌, ◌<◌, ◌≤◌, ◌^◌, ◌&&◌, Bool, true, false, cond, List, [], ◌∷◌, ◌++◌, length, map, Option, Some, None, refl, sym, ◌∙◌, ap, subst, arith, IsTrue}
 use Rattle.std.specs.Prelude.{◌==◌, ◌↔◌, count_by, nat_le, is_some}
 use Rattle.std.specs.List.{AllByRecursion, list_any}
 use Rattle.std.specs.Ordering.{nat_cmp, eq_by_cmp}
 use Rattle.std.specs.FinMap as maps
 use Rattle.std.specs.FinMap.{find}
 use Rattle.std.proofs.lemmas.Bool.{cases_eq, eqb-true, eq-eqb, ne_eqb, leb-true, and_parts}
-use Rattle.std.proofs.lemmas.List.{length-map}
+use Rattle.std.proofs.lemmas.List.{length-map, length-replicate}
 use Rattle.std.proofs.lemmas.List.Sums.{sum_by-cons}
 use Rattle.std.proofs.lemmas.Nat.{div-add-mod'}
 use Rattle.std.proofs.Math.Nat.{div-le_self}
 use Rattle.vec_record.specs.Held as held
-use Rattle.vec_record.specs.Distance.{greatest_of}
+use Rattle.vec_record.specs.Distance.{greatest_of, distance_of}
 use Rattle.vec_record.specs.Limits.{are_within, is_between, greatest_dim, width_of}
 use Rattle.vec_record.specs.Spelled.{is_spelled}
-use Rattle.vec_record.specs.Vectors.{IsVector}
+use Rattle.vec_record.specs.Vectors.{IsVector, AreBytes}
 use Rattle.mtree_node.specs.Preorder.{LeafRow, InnerRow}
 use Rattle.mtree_index.specs.Plain.{PlainTree}
 use Rattle.mtree_index.specs.Tree.{contents}
@@ -22,6 +22,7 @@ use Rattle.tree_objects.specs.Laws.{AllPass, RowsPass}
 use Rattle.node_refs.specs.declared.pages.NodePage.{NodePage}
 use Rattle.node_refs.specs.Pages.{HasSlots, is_leaf_page, is_inner_page}
 use Rattle.node_refs.specs.Laws.{places_in, PageHasObjectsIn}
+use Rattle.stored_tree.specs.Reading.{tree_in}
 use Rattle.stored_tree.specs.Laws.{PageHasVectors, PagePasses}
 use Rattle.stored_lines.specs.declared.line.Line.{Line}
 use Rattle.stored_lines.specs.Lines as lines_in
@@ -35,7 +36,7 @@ use Rattle.page_layout.specs.Inner.{IsInnerRow}
 use Rattle.page_layout.specs.Slots.{Rows, IsRow, slots_in_page}
 use Rattle.node_places.specs.Slots.{AreApart}
 use Rattle.store_image.specs.Contents.{kind_of, node_page_of, kinds_of, count_of_kind, all_slots, node_pages}
-use Rattle.store_image.specs.Loading.{record_limit, leaf_limit, inner_limit, are_few}
+use Rattle.store_image.specs.Loading.{record_limit, leaf_limit, inner_limit, are_few, in_tree, tree_on}
 use Rattle.store_image.specs.Placing.{CanStand, IsKept}
 use Rattle.store_image.specs.inside.Reads.{AreTied, IsNodePage}
 use Rattle.store_image.proofs.LoadEntries.{tied_is}
@@ -136,6 +137,19 @@ have_vectors v width pages w all = all_weaker (IsNodePage v) (PageHasVectors wid
 
 pub pages_pass : (v : Values) (pages : List NodePage) → AllByRecursion (IsNodePage v) pages → AllByRecursion (PagePasses (is_spelled v.metric v.dim)) pages
 pages_pass v pages all = all_weaker (IsNodePage v) (PagePasses (is_spelled v.metric v.dim)) (λ p is. is.passes) pages all
+
+-- the tree of the pages, at the width of the records
+pub tree_at : (h : HeadValue) (w : ℕ) (pages : List NodePage) (vectors : held.Rows) → w ≡ width_of h.values.metric h.values.dim
+    → tree_on h pages vectors ≡ in_tree (tree_in (distance_of h.values.metric) w h.height h.root pages vectors)
+tree_at h w pages vectors is = ap (λ (k : ℕ). in_tree (tree_in (distance_of h.values.metric) k h.height h.root pages vectors)) (sym is)
+
+-- a vector of each width
+zero_bytes : (w : ℕ) → AreBytes (replicate w 0)
+zero_bytes zero = tt
+zero_bytes (suc w) = (omega arith, zero_bytes w)
+
+pub zeros : (w : ℕ) → IsVector w (replicate w 0)
+zeros w = record { len = length-replicate w 0; bytes = zero_bytes w }
 
 -- the height of a head with so many records
 low_at : (count height : ℕ) (b : Bool) → IsTrue (cond b (height == 0) (is_between 1 6 height)) → height ≤ 6

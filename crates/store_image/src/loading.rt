@@ -84,6 +84,7 @@ fn tree_of<M: Metric, L: Ledger>(
         (AllPass (is_spelled head.now.params.metric head.now.params.dim)) }
     ensures counted { steps.new ≤ steps.old + 8 * maps.len parts.now.records.vectors }
 {
+    let _ = parts.records.width();
     let tree = read_tree::<M, L>(
         alloc,
         head.height,
