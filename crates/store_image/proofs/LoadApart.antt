@@ -12,6 +12,7 @@ use Rattle.page_layout.specs.Heads.{Values}
 use Rattle.page_layout.specs.Slots.{IsSlot, is_anchor, is_label}
 use Rattle.vec_record.specs.Limits.{is_between}
 use Rattle.node_places.specs.Slots.{has}
+use Rattle.store_image.specs.inside.Reads.{line_with}
 
 count_push : (q : ℕ) (ns : List ℕ) (n : ℕ) → count_by (λ m. m == q) (ns ++ n ∷ []) ≡ count_by (λ m. m == q) ns + cond (n == q) 1 0
 count_push q [] n = omega (arith, counted q n [])
@@ -37,10 +38,6 @@ once_more ns n once away q = elim (cases_eq n q) [
 pub all_push : {A : Type 0} (P : A → Type 0) (xs : List A) (x : A) → AllByRecursion P xs → P x → AllByRecursion P (xs ++ x ∷ [])
 all_push P [] x all one = (one, tt)
 all_push P (y ∷ xs) x all one = (all.0, all_push P xs x all.1 one)
-
--- what a used slot says beside its vector
-abbrev pub line_with : Slot → Line
-line_with s = record { number = s.number; count = s.count; anchor = s.anchor; label = s.label }
 
 pub slot_line : (v : Values) (s : Slot) → IsSlot v s → IsLine v.minpts (line_with s)
 slot_line v s is = record {

@@ -14,6 +14,9 @@ use Rattle.page_layout.specs.declared.body.Body.{Body}
 use Rattle.page_layout.specs.Heads.{Values, HeadValue}
 use Rattle.store_image.specs.declared.fault.StoreFault.{StoreFault}
 use Rattle.store_image.specs.declared.fault.StoreFault.TheVariants.{Damaged}
+use Rattle.kept_clusters.specs.Kept.{Kept}
+use Rattle.count_book.specs.Counted.{Counted}
+use Rattle.label_book.specs.Labels.{Labels}
 use Rattle.store_image.specs.declared.sorted.Sorted.{Sorted}
 use Rattle.store_image.specs.Contents.{kinds_of, all_slots, node_pages}
 use Rattle.store_image.specs.Images.{Image, image_with, number_of, vectors_of, lines_of}
@@ -108,6 +111,17 @@ pub remaining_passes : (h : HeadValue) (parts : Sorted) (tree : PlainTree) → l
     → tree_on h parts.nodes.items parts.records.vectors ≡ Ok tree → remaining h parts ≡ Ok (image_by h parts tree)
 remaining_passes h parts tree same tied is =
     remaining_tied h parts same tied ∙ ap (λ (o : Result PlainTree StoreFault). and_then o (λ tree. Ok (image_by h parts tree))) is
+
+-- what is kept by a tree and the books of the lines
+pub kept_is : (v : Values) (lines : List Line) (tree : PlainTree) (counts : Counted) (labels : Labels) (kept : Kept) → kept ≡ record { eps = v.eps; tree = tree; counts = counts; labels = labels }
+    → counts ≡ record { minpts = v.minpts; rows = lines_in.rows_of lines } → labels ≡ lines_in.labels_of v.minpts lines
+    → kept ≡ record { eps = v.eps; tree = tree; counts = record { minpts = v.minpts; rows = lines_in.rows_of lines }; labels = lines_in.labels_of v.minpts lines }
+kept_is v lines tree counts labels kept is a b = is ∙ (λ i. record { eps = v.eps; tree = tree; counts = a i; labels = b i })
+
+pub state_image : (h : HeadValue) (parts : Sorted) (tree : PlainTree) (kept : Kept) → parts.records.width ≡ width_of h.values.metric h.values.dim
+    → kept ≡ record { eps = h.values.eps; tree = tree; counts = record { minpts = h.values.minpts; rows = lines_in.rows_of parts.lines.items }; labels = lines_in.labels_of h.values.minpts parts.lines.items }
+    → image_by h parts tree ≡ image_with h parts.records kept
+state_image h parts tree kept width is = λ i. image_with h (record { width = sym width i; vectors = parts.records.vectors }) (sym is i)
 
 -- the load by its parts
 pub load_is : (pages : List (List ℕ)) (h : HeadValue) (bodies : List Body) → head_in_pages pages ≡ Ok h → bodies_in h.values 2 (drop 1 pages) ≡ Ok bodies → load_of pages ≡ checked h bodies

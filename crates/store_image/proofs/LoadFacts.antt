@@ -35,10 +35,12 @@ use Rattle.page_layout.specs.Heads.{Values, HeadValue, IsHead, is_height}
 use Rattle.page_layout.specs.Inner.{IsInnerRow}
 use Rattle.page_layout.specs.Slots.{Rows, IsRow, slots_in_page}
 use Rattle.node_places.specs.Slots.{AreApart}
+use Rattle.store_image.specs.declared.sorted.Sorted.{Sorted}
+use Rattle.store_image.specs.Images.{number_of, vectors_of, lines_of}
 use Rattle.store_image.specs.Contents.{kind_of, node_page_of, kinds_of, count_of_kind, all_slots, node_pages}
-use Rattle.store_image.specs.Loading.{record_limit, leaf_limit, inner_limit, are_few, in_tree, tree_on}
+use Rattle.store_image.specs.Loading.{record_limit, leaf_limit, inner_limit, are_few, first_repeated, in_tree, tree_on}
 use Rattle.store_image.specs.Placing.{CanStand, IsKept}
-use Rattle.store_image.specs.inside.Reads.{AreTied, IsNodePage}
+use Rattle.store_image.specs.inside.Reads.{AreTied, IsNodePage, Took, ArePartsOf}
 use Rattle.store_image.proofs.LoadEntries.{tied_is}
 
 -- how many pages there are
@@ -150,6 +152,31 @@ zero_bytes (suc w) = (omega arith, zero_bytes w)
 
 pub zeros : (w : ℕ) → IsVector w (replicate w 0)
 zeros w = record { len = length-replicate w 0; bytes = zero_bytes w }
+
+-- the parts of body pages
+pub sorted_of : (v : Values) (bodies : List Body) (slots : Rows) (p : Sorted) → IsTrue (are_within v.metric v.dim v.eps v.minpts v.cap) → AllByRecursion (IsBody v) bodies → are_few v bodies ≡ true
+    → p.kinds.items ≡ kinds_of bodies → slots ≡ all_slots bodies → p.nodes.items ≡ node_pages bodies → Took v slots p.numbers.items p.lines.items p.records → ArePartsOf v bodies p
+sorted_of v bodies slots p within lawful few kinds slots_are nodes took =
+    let most = few_bounded v bodies within few in
+    let width : p.records.width ≡ width_of v.metric v.dim = ap (λ (r : held.Held). r.width) took.records_are in
+    let vectors : p.records.vectors ≡ vectors_of slots = ap (λ (r : held.Held). r.vectors) took.records_are in
+    record {
+      few = few;
+      once = ap (λ (l : Rows). first_repeated (map number_of l)) (sym slots_are) ∙ took.once;
+      kinds = kinds;
+      numbers = took.numbers_are ∙ ap (λ (l : Rows). map number_of l) slots_are;
+      lines = took.lines_are ∙ ap lines_of slots_are;
+      nodes = nodes;
+      vectors = vectors ∙ ap vectors_of slots_are;
+      sorted = record {
+        pages = let long : length p.kinds.items ≡ length (kinds_of bodies) = ap length kinds in omega (arith, long, kinds_few bodies most);
+        nodes_few = let long : length p.nodes.items ≡ length (node_pages bodies) = ap length nodes in omega (arith, long, nodes_few bodies most);
+        room = let same : places_in p.nodes.items ≡ places_in (node_pages bodies) = ap places_in nodes in omega (arith, same, room bodies most);
+        nodes = subst (AllByRecursion (IsNodePage v)) (sym nodes) (nodes_lawful v bodies lawful);
+        width = width;
+        tied = took.tied;
+      };
+    }
 
 -- the height of a head with so many records
 low_at : (count height : ℕ) (b : Bool) → IsTrue (cond b (height == 0) (is_between 1 6 height)) → height ≤ 6

@@ -24,10 +24,10 @@ use Rattle.store_image.specs.declared.fault.StoreFault.TheVariants.{Foreign, Dam
 use Rattle.store_image.specs.Images.{number_of, entry_of, line_of, vectors_of, lines_of}
 use Rattle.store_image.specs.Loading.{first_repeated, unless_repeated, Fails}
 use Rattle.store_image.specs.Placing.{CanStand}
-use Rattle.store_image.specs.inside.Reads.{repeats, MayRepeat, AreTied, Taking, Took}
+use Rattle.store_image.specs.inside.Reads.{repeats, line_with, MayRepeat, AreTied, Taking, Took}
 use Rattle.store_image.proofs.LoadNumbers.{once_push, first_found}
 use Rattle.store_image.proofs.LoadEntries.{found_number, found_line}
-use Rattle.store_image.proofs.LoadApart.{line_with, slot_line, lines_more}
+use Rattle.store_image.proofs.LoadApart.{slot_line, lines_more}
 
 -- one slot more
 all_put : (P : ℕ × List ℕ → Type 0) (n : ℕ) (v : List ℕ) (es : List (ℕ × List ℕ)) → P (n, v) → AllByRecursion P es → AllByRecursion P (put nat_cmp n v es)

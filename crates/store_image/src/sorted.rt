@@ -8,10 +8,10 @@ ghost use Rattle.vec_record.specs.Limits.{width_of};
 ghost use Rattle.page_layout.specs.Heads.{values_of};
 ghost use Rattle.page_layout.specs.Slots.{Rows, IsSlot, IsRow};
 ghost use Rattle.page_layout.specs.Bodies.{IsBody};
-ghost use Rattle.store_image.specs.Images.{number_of, line_of};
+ghost use Rattle.store_image.specs.Images.{number_of};
 ghost use Rattle.store_image.specs.Loading.{Fails};
 ghost use Rattle.store_image.specs.inside.Reads.{repeats, parted, MayRepeat, Taking, Took};
-ghost use Rattle.store_image.specs.inside.Reads.{ArePartsOf};
+ghost use Rattle.store_image.specs.inside.Reads.{ArePartsOf, line_with};
 
 use crate::contents::{Contents, take_apart};
 use crate::fault::StoreFault;
@@ -68,7 +68,7 @@ fn take_record(
 
 /// The line of a slot.
 fn line_in(slot: &Slot) -> Line
-    ensures { result ∷ [] ≡ line_of (Some slot.now) }
+    ensures { result ≡ line_with slot.now }
 {
     Line {
         number: slot.number,
@@ -104,7 +104,7 @@ fn take_used(
     requires pages { length kinds.now + 2 < 2 ^ 32 }
     requires slot { IsSlot (values_of params.now) slot }
     requires width { taken.old.records.width ≡ width_of params.now.metric params.now.dim }
-    ensures taken { (all rest : Rows)
+    ensures { (all rest : Rows)
         → Taking (values_of params.now) all (Some slot ∷ rest) taken.old.numbers.items
         taken.old.lines.items taken.old.records
         → MatchResult result (λ _. Taking (values_of params.now) all rest taken.new.numbers.items
@@ -129,7 +129,7 @@ fn take_slot(
     requires pages { length kinds.now + 2 < 2 ^ 32 }
     requires row { IsRow (values_of params.now) row }
     requires width { taken.old.records.width ≡ width_of params.now.metric params.now.dim }
-    ensures taken { (all rest : Rows)
+    ensures { (all rest : Rows)
         → Taking (values_of params.now) all (row ∷ rest) taken.old.numbers.items
         taken.old.lines.items taken.old.records
         → MatchResult result (λ _. Taking (values_of params.now) all rest taken.new.numbers.items
@@ -158,10 +158,13 @@ fn take_slots(
         t.lines.items t.records)
         (λ e. Fails e (repeats (values_of params.now) kinds.now (map number_of slots.items))) }
 {
+    let numbers = Vec::new(alloc);
+    let lines = Vec::new(alloc);
+    let records = Records::new(alloc, params.width());
     let mut taken = Taken {
-        numbers: Vec::new(alloc),
-        lines: Vec::new(alloc),
-        records: Records::new(alloc, params.width()),
+        numbers,
+        lines,
+        records,
     };
     let mut left = slots;
     left.reverse();
@@ -186,7 +189,8 @@ pub(crate) fn sort_bodies(
         slots,
         nodes,
     } = take_apart(alloc, bodies)?;
-    if !are_few(params, &kinds) {
+    let few = are_few(params, &kinds);
+    if !few {
         return Err(StoreFault::Damaged { page: 1, offset: 0 });
     }
     let taken = take_slots(alloc, params, &kinds, slots)?;

@@ -14,6 +14,7 @@ use Rattle.stored_tree.specs.Laws.{PageHasVectors, PagePasses}
 use Rattle.stored_lines.specs.declared.line.Line.{Line}
 use Rattle.stored_lines.specs.declared.fault.Loose.{Loose}
 use Rattle.stored_lines.specs.Lines as lines_in
+use Rattle.page_layout.specs.declared.slot.Slot.{Slot}
 use Rattle.page_layout.specs.declared.body.Body.{Body}
 use Rattle.page_layout.specs.Heads.{Values, HeadValue}
 use Rattle.page_layout.specs.Slots.{Rows, IsRow}
@@ -47,6 +48,10 @@ tied_at v kinds numbers loose = unless_loose (width_of v.metric v.dim) kinds num
 
 abbrev pub ties : Values → List ℕ → List ℕ → List Line → Result (Unit {0}) StoreFault
 ties v kinds numbers lines = tied_at v kinds numbers (lines_in.first_loose v.minpts lines)
+
+-- the line of a used slot
+abbrev pub line_with : Slot → Line
+line_with s = record { number = s.number; count = s.count; anchor = s.anchor; label = s.label }
 
 -- why a record isn't taken: memory is wanting, or its number is there already and stands again in
 -- the slot at a place
