@@ -1,6 +1,6 @@
 -- The checks behind the grammar of the pages, one behind another.
 use Rattle.std.proofs.Common.{◌≡◌, ℕ, Bool, true, false, List, length, map, drop, Option, Some, None, Result, Ok, Err, refl, sym, ◌∙◌, ap, subst}
-use Rattle.std.specs.Prelude.{◌==◌}
+use Rattle.std.specs.Prelude.{◌==◌, IfOk}
 use Rattle.std.proofs.lemmas.Bool.{eq-eqb, ne_eqb}
 use Rattle.vec_record.specs.Held as held
 use Rattle.vec_record.specs.Limits.{width_of}
@@ -22,6 +22,9 @@ use Rattle.store_image.specs.Contents.{kinds_of, all_slots, node_pages}
 use Rattle.store_image.specs.Images.{Image, image_with, number_of, vectors_of, lines_of}
 use Rattle.store_image.specs.Loading.{and_then, unless, head_in_pages, bodies_in, are_few, first_repeated, unless_repeated, unless_loose, tree_on, checked, load_of, Fails}
 use Rattle.store_image.specs.inside.Reads.{repeats, parted, tied_at, ties, ArePartsOf, image_by, remaining}
+use Rattle.store_image.specs.declared.loaded.Places.{Places}
+use Rattle.store_image.specs.Placing.{ArePagesOf, IsPaged, bodies_if_read, bodies_on}
+use Rattle.store_image.proofs.LoadNumbers.{once_apart}
 use Rattle.store_image.proofs.LoadReading.{go_on, fails_is, fails_then}
 
 unless_then : {A : Type 0} (b : Bool) (fault : StoreFault) (o : Option ℕ) (width : ℕ) (kinds : List ℕ) (next : Result A StoreFault)
@@ -139,3 +142,19 @@ unfolding load_of
 load_no_bodies pages h e head fails =
     subst (Fails e) (sym (go_on (head_in_pages pages) (λ h. and_then (bodies_in h.values 2 (drop 1 pages)) (checked h)) h (and_then (bodies_in h.values 2 (drop 1 pages)) (checked h)) head refl))
     (fails_then e (bodies_in h.values 2 (drop 1 pages)) (checked h) fails)
+
+-- the places are those of the pages
+pub paged_of : (h : HeadValue) (bodies : List Body) (parts : Sorted) (places : Places) (list : List (List ℕ)) → head_in_pages list ≡ Ok h → bodies_in h.values 2 (drop 1 list) ≡ Ok bodies
+    → ArePartsOf h.values bodies parts → places.kinds.items ≡ parts.kinds.items → places.numbers.items ≡ parts.numbers.items → IsPaged h places list
+paged_of h bodies parts places list head are of kinds numbers =
+    let on : bodies_on h list ≡ bodies = ap bodies_if_read are in
+    record {
+      are = subst (λ (b : List Body). ArePagesOf h b list) (sym on) (record { head = head; bodies_are = are; few = of.few; once = once_apart (map number_of (all_slots bodies)) of.once });
+      kinds = kinds ∙ of.kinds ∙ ap kinds_of (sym on);
+      numbers = numbers ∙ of.numbers ∙ ap (λ (b : List Body). map number_of (all_slots b)) (sym on);
+    }
+
+-- what holds where three things do
+pub if_all : {A E : Type 0} (P Q R S : A → Type 0) (r : Result A E) → ((x : A) → P x → Q x → R x → S x) → IfOk r P → IfOk r Q → IfOk r R → IfOk r S
+if_all P Q R S (Ok x) all p q r = all x p q r
+if_all P Q R S (Err e) all p q r = tt

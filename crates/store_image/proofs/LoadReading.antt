@@ -11,7 +11,7 @@ use Rattle.page_layout.specs.Heads.{Values, HeadValue, head_of, head_in, head_fi
 use Rattle.page_layout.specs.Bodies.{body_of}
 use Rattle.store_image.specs.declared.fault.StoreFault.{StoreFault}
 use Rattle.store_image.specs.declared.fault.StoreFault.TheVariants.{Foreign, Damaged, Memory}
-use Rattle.store_image.specs.Loading.{and_then, in_page, head_in_pages, bodies_in, count_said, Fails}
+use Rattle.store_image.specs.Loading.{and_then, in_page, head_in_pages, bodies_in, values_of_head, params_in_pages, count_said, Fails}
 use Rattle.store_image.specs.inside.Reads.{bodies_behind}
 
 pub go_on : {A B : Type 0} (o : Result A StoreFault) (next : A → Result B StoreFault) (a : A) (r : Result B StoreFault) → o ≡ Ok a → next a ≡ r → and_then o next ≡ r
@@ -83,6 +83,11 @@ read_head_is pages h is = at (head_of (get_or pages 0 [])) (sym (head_in_is page
     at (Err layout_fault.Foreign) is = absurd (cc)
     at (Err (layout_fault.Damaged offset)) is = absurd (cc)
     at (Err layout_fault.Memory) is = absurd (cc)
+
+-- the parameters are those of the head page
+pub params_are : (pages : List (List ℕ)) (h : HeadValue) → head_in_pages pages ≡ Ok h → params_in_pages pages ≡ Ok h.values
+unfolding params_in_pages
+params_are pages h is = ap (λ o. and_then o values_of_head) is
 
 -- the number of records is read of the head page
 pub count_is : (pages : List (List ℕ)) (h : HeadValue) → head_in_pages pages ≡ Ok h → count_said pages ≡ h.count

@@ -114,13 +114,16 @@ fn take_state<M: Metric, L: Ledger>(
         ≡ Ok (image_with (plain s.head) s.records s.clusters))
         (λ e. Fails e (remaining (plain head) parts)) }
     ensures head { IfOk result (λ s. s.head ≡ head) }
-    ensures records { IfOk result (λ s. s.records ≡ parts.records) }
     ensures kinds { IfOk result (λ s. s.places.kinds.items ≡ parts.kinds.items) }
     ensures numbers { IfOk result (λ s. s.places.numbers.items ≡ parts.numbers.items) }
-    ensures count { OnOk result (maps.len parts.records.vectors ≡ head.count) }
-    ensures kept { IfOk result (λ s. IsKept (plain head).values parts.records s.clusters) }
+    ensures standing { IfOk result
+        (λ s. AllByRecursion (CanStand (plain s.head).values) (maps.entries s.records.vectors)) }
+    ensures width { IfOk result
+        (λ s. s.records.width ≡ width_of s.head.params.metric s.head.params.dim) }
+    ensures few { IfOk result (λ s. maps.len s.records.vectors ≤ s.head.params.cap) }
+    ensures kept { IfOk result (λ s. IsKept (plain s.head).values s.records s.clusters) }
     ensures counted { IfOk result
-        (λ s. steps.new ≤ steps.old + 8 * maps.len parts.records.vectors) }
+        (λ s. steps.new ≤ steps.old + 8 * maps.len s.records.vectors) }
     ensures bounded { steps.new ≤ steps.old + 8 * head.count }
 {
     if parts.lines.len() != head.count as usize {

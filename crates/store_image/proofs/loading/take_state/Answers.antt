@@ -42,3 +42,12 @@ returns-clause-kept g c =
     subst (IsKept h.values parts.records)
     (sym (kept_is h.values parts.lines.items tree c.in_ok-books.books.counts c.in_ok-books.books.labels c.from_parts.result c.from_parts.ensures c.in_ok-books.ensures.counts c.in_ok-books.ensures.labels))
     (kept_of h.values parts.records parts.lines.items tree c.books_have_form.ensures c.requires.parts.tied c.in_ok-books.ensures.ok c.in_ok-tree.ensures.width c.in_ok-tree.ensures.contents c.in_ok-tree.ensures.spelled)
+
+pub returns-clause-standing : goal.returns-clause-standing
+returns-clause-standing g c = c.requires.parts.tied.stand
+
+pub returns-clause-width : goal.returns-clause-width
+returns-clause-width g c = c.requires.parts.width
+
+pub returns-clause-few : goal.returns-clause-few
+returns-clause-few g c = omega (arith, c.requires.parts.tied.count, c.len.ensures, c.if-len-head.false, c.requires.lawful.count)
