@@ -28,10 +28,10 @@ pub once_more : (ns : List ℕ) (n : ℕ) → AreOnce ns → has ns n ≡ false 
 once_more ns n once away q = elim (cases_eq n q) [
   | inl same ↦
       let none : count_by (λ m. m == q) ns ≡ 0 = absent_count q ns (subst (λ (k : ℕ). has ns k ≡ false) same away) in
-      let one : cond (n == q) 1 0 ≡ 1 = ap (λ (b : Bool). cond b 1 0) (eq-eqb n q same) in
+      let one : ◌≡◌ {A = ℕ} (cond (n == q) 1 0) 1 = ap (λ (b : Bool). cond {A = ℕ} b 1 0) (eq-eqb n q same) in
       omega (arith, count_push q ns n, none, one)
   | inr differ ↦
-      let none : cond (n == q) 1 0 ≡ 0 = ap (λ (b : Bool). cond b 1 0) (ne_eqb n q differ) in
+      let none : ◌≡◌ {A = ℕ} (cond (n == q) 1 0) 0 = ap (λ (b : Bool). cond {A = ℕ} b 1 0) (ne_eqb n q differ) in
       omega (arith, count_push q ns n, once q, none)
 ]
 

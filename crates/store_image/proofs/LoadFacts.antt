@@ -55,15 +55,15 @@ kinds_all (body.Inner rows ∷ bodies) = let ks = kinds_of bodies in omega (arit
 
 leaf_pages : (bodies : List Body) → count_by is_leaf_page (node_pages bodies) ≡ count_of_kind 2 bodies
 leaf_pages [] = refl
-leaf_pages (body.Slots slots ∷ bodies) = sum_by-cons (λ p. cond (is_leaf_page p) 1 0) _ (node_pages bodies) ∙ ap (λ (n : ℕ). 0 + n) (leaf_pages bodies) ∙ sym (one_more 2 1 (kinds_of bodies) 0 refl)
-leaf_pages (body.Leaves leaves ∷ bodies) = sum_by-cons (λ p. cond (is_leaf_page p) 1 0) _ (node_pages bodies) ∙ ap (λ (n : ℕ). 1 + n) (leaf_pages bodies) ∙ sym (one_more 2 2 (kinds_of bodies) 1 refl)
-leaf_pages (body.Inner rows ∷ bodies) = sum_by-cons (λ p. cond (is_leaf_page p) 1 0) _ (node_pages bodies) ∙ ap (λ (n : ℕ). 0 + n) (leaf_pages bodies) ∙ sym (one_more 2 3 (kinds_of bodies) 0 refl)
+leaf_pages (body.Slots slots ∷ bodies) = sum_by-cons (λ p. cond (is_leaf_page p) 1 0) (node_page_of (body.Slots slots)) (node_pages bodies) ∙ ap (λ (n : ℕ). 0 + n) (leaf_pages bodies) ∙ sym (one_more 2 1 (kinds_of bodies) 0 refl)
+leaf_pages (body.Leaves leaves ∷ bodies) = sum_by-cons (λ p. cond (is_leaf_page p) 1 0) (node_page_of (body.Leaves leaves)) (node_pages bodies) ∙ ap (λ (n : ℕ). 1 + n) (leaf_pages bodies) ∙ sym (one_more 2 2 (kinds_of bodies) 1 refl)
+leaf_pages (body.Inner rows ∷ bodies) = sum_by-cons (λ p. cond (is_leaf_page p) 1 0) (node_page_of (body.Inner rows)) (node_pages bodies) ∙ ap (λ (n : ℕ). 0 + n) (leaf_pages bodies) ∙ sym (one_more 2 3 (kinds_of bodies) 0 refl)
 
 inner_pages : (bodies : List Body) → count_by is_inner_page (node_pages bodies) ≡ count_of_kind 3 bodies
 inner_pages [] = refl
-inner_pages (body.Slots slots ∷ bodies) = sum_by-cons (λ p. cond (is_inner_page p) 1 0) _ (node_pages bodies) ∙ ap (λ (n : ℕ). 0 + n) (inner_pages bodies) ∙ sym (one_more 3 1 (kinds_of bodies) 0 refl)
-inner_pages (body.Leaves leaves ∷ bodies) = sum_by-cons (λ p. cond (is_inner_page p) 1 0) _ (node_pages bodies) ∙ ap (λ (n : ℕ). 0 + n) (inner_pages bodies) ∙ sym (one_more 3 2 (kinds_of bodies) 0 refl)
-inner_pages (body.Inner rows ∷ bodies) = sum_by-cons (λ p. cond (is_inner_page p) 1 0) _ (node_pages bodies) ∙ ap (λ (n : ℕ). 1 + n) (inner_pages bodies) ∙ sym (one_more 3 3 (kinds_of bodies) 1 refl)
+inner_pages (body.Slots slots ∷ bodies) = sum_by-cons (λ p. cond (is_inner_page p) 1 0) (node_page_of (body.Slots slots)) (node_pages bodies) ∙ ap (λ (n : ℕ). 0 + n) (inner_pages bodies) ∙ sym (one_more 3 1 (kinds_of bodies) 0 refl)
+inner_pages (body.Leaves leaves ∷ bodies) = sum_by-cons (λ p. cond (is_inner_page p) 1 0) (node_page_of (body.Leaves leaves)) (node_pages bodies) ∙ ap (λ (n : ℕ). 0 + n) (inner_pages bodies) ∙ sym (one_more 3 2 (kinds_of bodies) 0 refl)
+inner_pages (body.Inner rows ∷ bodies) = sum_by-cons (λ p. cond (is_inner_page p) 1 0) (node_page_of (body.Inner rows)) (node_pages bodies) ∙ ap (λ (n : ℕ). 1 + n) (inner_pages bodies) ∙ sym (one_more 3 3 (kinds_of bodies) 1 refl)
 
 cap_small : (v : Values) → IsTrue (are_within v.metric v.dim v.eps v.minpts v.cap) → v.cap ≤ 200000
 cap_small v within =
@@ -200,14 +200,14 @@ none_at_no_height h len is same = (λ flat. same ∙ at (h.count == 0) refl is.h
 -- the records pass the test
 found_in : (P : ℕ × List ℕ → Type 0) (es : List (ℕ × List ℕ)) (q : ℕ) (v : List ℕ) → AllByRecursion P es → find nat_cmp q es ≡ Some v → P (q, v)
 found_in P [] q v all is = absurd (let no : ◌≡◌ {A = Option (List ℕ)} None (Some v) = is in cc)
-found_in P (e ∷ es) q v all is = at (eq_by_cmp nat_cmp q e.0) (tied_is q e.0) is
+found_in P (e ∷ es) q v all is = at (eq_by_cmp nat_cmp q e.0) (tied_is q e.0) (found_in P es q v all.1) is
   where
     same_some : (x : List ℕ) → ◌≡◌ {A = Option (List ℕ)} (Some x) (Some v) → x ≡ v
     same_some x so = cc
 
-    at : (b : Bool) → b ≡ (e.0 == q) → cond b (Some e.1) (find nat_cmp q es) ≡ Some v → P (q, v)
-    at true same found = subst (λ (x : List ℕ). P (q, x)) (same_some e.1 found) (subst (λ (n : ℕ). P (n, e.1)) (eqb-true e.0 q (sym same)) all.0)
-    at false same found = found_in P es q v all.1 found
+    at : (b : Bool) → b ≡ (e.0 == q) → (find nat_cmp q es ≡ Some v → P (q, v)) → cond b (Some e.1) (find nat_cmp q es) ≡ Some v → P (q, v)
+    at true same rest found = subst (λ (x : List ℕ). P (q, x)) (same_some e.1 found) (subst (λ (n : ℕ). P (n, e.1)) (eqb-true e.0 q (sym same)) all.0)
+    at false same rest found = rest found
 
 pub records_pass : (v : Values) (vectors : held.Rows) → AllByRecursion (CanStand v) (maps.entries vectors) → RowsPass (is_spelled v.metric v.dim) vectors
 records_pass v vectors all = λ q x is. (found_in (CanStand v) (maps.entries vectors) q x all (sym (maps.get-entries vectors q) ∙ is)).spelled

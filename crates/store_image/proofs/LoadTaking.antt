@@ -48,7 +48,7 @@ entries_push done row = flat_map-append entry_of done (row ∷ []) ∙ ap (λ (l
 lines_push : (done : Rows) (row : Option Slot) → lines_of (done ++ row ∷ []) ≡ lines_of done ++ line_of row
 lines_push done row = flat_map-append line_of done (row ∷ []) ∙ ap (λ (l : List Line). flat_map line_of done ++ l) (append-nil (line_of row))
 
-held_of : Values → held.Rows → held.Held
+abbrev held_of : Values → held.Rows → held.Held
 held_of v m = record { width = width_of v.metric v.dim; vectors = m }
 
 -- a record is there exactly where a line is
@@ -138,7 +138,7 @@ none_tied : (v : Values) → AreTied v [] maps.empty
 none_tied v = record {
   lawful = record { each = tt; once = λ n. omega arith };
   count = maps.len-empty nat_cmp (List ℕ);
-  tied = λ a. refl;
+  tied = λ a. ap is_some (maps.get-empty nat_cmp a);
   stand = none_stand v;
 }
 

@@ -13,7 +13,7 @@ ghost use Rattle.store_image.specs.Loading.{Fails};
 ghost use Rattle.store_image.specs.inside.Reads.{repeats, parted, MayRepeat, Taking, Took};
 ghost use Rattle.store_image.specs.inside.Reads.{ArePartsOf, line_with};
 
-use crate::contents::{Contents, take_apart};
+use crate::contents::take_apart;
 use crate::fault::StoreFault;
 use crate::finding::{are_few, slot_fault};
 use node_refs::NodePage;
@@ -184,21 +184,18 @@ pub(crate) fn sort_bodies(
     ensures { MatchResult result (ArePartsOf (values_of params.now) bodies.items)
         (λ e. Fails e (parted (values_of params.now) bodies.items)) }
 {
-    let Contents {
-        kinds,
-        slots,
-        nodes,
-    } = take_apart(alloc, bodies)?;
-    let few = are_few(params, &kinds);
+    let contents = take_apart(alloc, bodies)?;
+    let few = are_few(params, &contents.kinds);
     if !few {
         return Err(StoreFault::Damaged { page: 1, offset: 0 });
     }
-    let taken = take_slots(alloc, params, &kinds, slots)?;
+    let kinds = contents.kinds;
+    let taken = take_slots(alloc, params, &kinds, contents.slots)?;
     Ok(Sorted {
         kinds,
         numbers: taken.numbers,
         lines: taken.lines,
-        nodes,
+        nodes: contents.nodes,
         records: taken.records,
     })
 }

@@ -11,40 +11,40 @@ use Rattle.store_image.proofs.LoadFacts.{few_bounded, kinds_few, slots_lawful, s
 use Rattle.store_image.proofs.LoadChecks.{many_parted, repeats_fail}
 use Rattle.store_image.proofs.sorted.sort_bodies.Goals as goal
 
-pub take_slots-taken-requires-clause-pages : goal.take_slots-taken-requires-clause-pages
-take_slots-taken-requires-clause-pages c =
+pub take_slots-requires-clause-pages : goal.take_slots-requires-clause-pages
+take_slots-requires-clause-pages c =
     let v = values_of c.args.params.now in
     let bodies = c.args.bodies.items in
-    let few : are_few v bodies ≡ true = sym (c.are_few-few.ensures bodies (c.in_ok-take_apart.ensures.kinds)) ∙ c.if-few.false in
+    let few : are_few v bodies ≡ true = sym (c.are_few-few.ensures bodies (c.in_ok-contents.ensures.kinds)) ∙ c.if-not-few.false in
     let most = kinds_few bodies (few_bounded v bodies c.args.params.now.limits few) in
-    let long : length c.in_ok-take_apart.kinds.items ≡ length (kinds_of bodies) = ap length c.in_ok-take_apart.ensures.kinds in
+    let long : length c.in_ok-contents.contents.kinds.items ≡ length (kinds_of bodies) = ap length c.in_ok-contents.ensures.kinds in
     omega (arith, most, long)
 
-pub take_slots-taken-requires-clause-lawful : goal.take_slots-taken-requires-clause-lawful
-take_slots-taken-requires-clause-lawful c =
+pub take_slots-requires-clause-lawful : goal.take_slots-requires-clause-lawful
+take_slots-requires-clause-lawful c =
     let v = values_of c.args.params.now in
-    subst (AllByRecursion (IsRow v)) (sym c.in_ok-take_apart.ensures.slots) (slots_lawful v c.args.bodies.items c.requires)
+    subst (AllByRecursion (IsRow v)) (sym c.in_ok-contents.ensures.slots) (slots_lawful v c.args.bodies.items c.requires)
 
-pub returns-then-few : goal.returns-then-few
-returns-then-few c =
+pub returns-then-not-few : goal.returns-then-not-few
+returns-then-not-few c =
     let v = values_of c.args.params.now in
     let bodies = c.args.bodies.items in
-    many_parted v bodies (sym (c.are_few-few.ensures bodies (c.in_ok-take_apart.ensures.kinds)) ∙ c.if-few.true)
+    many_parted v bodies (sym (c.are_few-few.ensures bodies (c.in_ok-contents.ensures.kinds)) ∙ c.if-not-few.true)
 
 pub returns-in_err-taken : goal.returns-in_err-taken
 returns-in_err-taken c =
     let v = values_of c.args.params.now in
     let bodies = c.args.bodies.items in
-    let few : are_few v bodies ≡ true = sym (c.are_few-few.ensures bodies (c.in_ok-take_apart.ensures.kinds)) ∙ c.if-few.false in
+    let few : are_few v bodies ≡ true = sym (c.are_few-few.ensures bodies (c.in_ok-contents.ensures.kinds)) ∙ c.if-not-few.false in
     let e = c.in_err-taken.field-0.0 in
     let p = err_from_is_err_and c.from_residual-in_err-taken.result c.from_residual-in_err-taken.ensures.1 in
     rw (p.1, p.2) (repeats_fail v bodies e few
-    (subst (λ (ks : List ℕ). Fails e (repeats v ks (map number_of (all_slots bodies)))) c.in_ok-take_apart.ensures.kinds
-    (subst (λ (s : Rows). Fails e (repeats v c.in_ok-take_apart.kinds.items (map number_of s))) c.in_ok-take_apart.ensures.slots c.in_err-taken.ensures)))
+    (subst (λ (ks : List ℕ). Fails e (repeats v ks (map number_of (all_slots bodies)))) c.in_ok-contents.ensures.kinds
+    (subst (λ (s : Rows). Fails e (repeats v c.in_ok-contents.contents.kinds.items (map number_of s))) c.in_ok-contents.ensures.slots c.in_err-taken.ensures)))
 
 pub returns : goal.returns
 returns c =
     let v = values_of c.args.params.now in
     let bodies = c.args.bodies.items in
-    let few : are_few v bodies ≡ true = sym (c.are_few-few.ensures bodies (c.in_ok-take_apart.ensures.kinds)) ∙ c.if-few.false in
-    sorted_of v bodies _ _ c.args.params.now.limits c.requires few c.in_ok-take_apart.ensures.kinds c.in_ok-take_apart.ensures.slots c.in_ok-take_apart.ensures.nodes c.in_ok-taken.ensures
+    let few : are_few v bodies ≡ true = sym (c.are_few-few.ensures bodies (c.in_ok-contents.ensures.kinds)) ∙ c.if-not-few.false in
+    sorted_of v bodies _ _ c.args.params.now.limits c.requires few c.in_ok-contents.ensures.kinds c.in_ok-contents.ensures.slots c.in_ok-contents.ensures.nodes c.in_ok-taken.ensures
