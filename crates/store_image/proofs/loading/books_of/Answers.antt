@@ -9,4 +9,4 @@ pub returns-in-Err-Loose-clause-err : goal.returns-in-Err-Loose-clause-err
 returns-in-Err-Loose-clause-err c =
     let v = values_of c.args.params.now in
     fails_is c.loose_fault.result (tied_at v c.args.parts.now.kinds.items c.args.parts.now.numbers.items _)
-    (ap (tied_at v c.args.parts.now.kinds.items c.args.parts.now.numbers.items) c.in-Err-Loose.ensures.fault ∙ sym c.loose_fault.ensures)
+    (let first = rw c.in-Err-Loose.field-0-is at c.in-Err-Loose.ensures.fault in ap (tied_at v c.args.parts.now.kinds.items c.args.parts.now.numbers.items) first ∙ sym c.loose_fault.ensures)
