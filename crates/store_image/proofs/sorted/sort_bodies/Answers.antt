@@ -15,7 +15,7 @@ pub take_slots-requires-clause-pages : goal.take_slots-requires-clause-pages
 take_slots-requires-clause-pages c =
     let v = values_of c.args.params.now in
     let bodies = c.args.bodies.items in
-    let few : are_few v bodies ≡ true = sym (c.are_few-few.ensures bodies (c.in_ok-contents.ensures.kinds)) ∙ c.if-not-few.false in
+    let few : are_few v bodies ≡ true = sym (c.are_few-few.ensures bodies (c.deref.ensures.value ∙ c.in_ok-contents.ensures.kinds)) ∙ c.if-not-few.false in
     let most = kinds_few bodies (few_bounded v bodies c.args.params.now.limits few) in
     let long : length c.in_ok-contents.contents.kinds.items ≡ length (kinds_of bodies) = ap length c.in_ok-contents.ensures.kinds in
     omega (arith, most, long)
@@ -29,13 +29,13 @@ pub returns-then-not-few : goal.returns-then-not-few
 returns-then-not-few c =
     let v = values_of c.args.params.now in
     let bodies = c.args.bodies.items in
-    many_parted v bodies (sym (c.are_few-few.ensures bodies (c.in_ok-contents.ensures.kinds)) ∙ c.if-not-few.true)
+    many_parted v bodies (sym (c.are_few-few.ensures bodies (c.deref.ensures.value ∙ c.in_ok-contents.ensures.kinds)) ∙ c.if-not-few.true)
 
 pub returns-in_err-taken : goal.returns-in_err-taken
 returns-in_err-taken c =
     let v = values_of c.args.params.now in
     let bodies = c.args.bodies.items in
-    let few : are_few v bodies ≡ true = sym (c.are_few-few.ensures bodies (c.in_ok-contents.ensures.kinds)) ∙ c.if-not-few.false in
+    let few : are_few v bodies ≡ true = sym (c.are_few-few.ensures bodies (c.deref.ensures.value ∙ c.in_ok-contents.ensures.kinds)) ∙ c.if-not-few.false in
     let e = c.in_err-taken.field-0.0 in
     let p = err_from_is_err_and c.from_residual-in_err-taken.result c.from_residual-in_err-taken.ensures.1 in
     rw (p.1, p.2) (repeats_fail v bodies e few
@@ -46,5 +46,5 @@ pub returns : goal.returns
 returns c =
     let v = values_of c.args.params.now in
     let bodies = c.args.bodies.items in
-    let few : are_few v bodies ≡ true = sym (c.are_few-few.ensures bodies (c.in_ok-contents.ensures.kinds)) ∙ c.if-not-few.false in
+    let few : are_few v bodies ≡ true = sym (c.are_few-few.ensures bodies (c.deref.ensures.value ∙ c.in_ok-contents.ensures.kinds)) ∙ c.if-not-few.false in
     sorted_of v bodies _ _ c.args.params.now.limits c.requires few c.in_ok-contents.ensures.kinds c.in_ok-contents.ensures.slots c.in_ok-contents.ensures.nodes c.in_ok-taken.ensures

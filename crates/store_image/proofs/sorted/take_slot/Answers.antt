@@ -11,8 +11,8 @@ returns-in-Some c = λ all rest t.
     let taken = c.args.taken.now in
     c.take_used.ensures all rest (subst (λ (r : Option Slot). Taking v all (r ∷ rest) taken.numbers.items taken.lines.items taken.records) c.in-Some.is t)
 
-pub returns : goal.returns
-returns c = λ all rest t.
+pub returns-in_ok-push_number-in-None : goal.returns-in_ok-push_number-in-None
+returns-in_ok-push_number-in-None c = λ all rest t.
     let v = values_of c.args.params.now in
     let taken = c.args.taken.now in
     let pushed : c.push_number.new.numbers.items ≡ taken.numbers.items ++ 0 ∷ [] = c.in_ok-push_number.ensures in
