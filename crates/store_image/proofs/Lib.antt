@@ -6,3 +6,12 @@ pub mod StoreWalks
 pub mod StoreNumbers
 pub mod StoreLawful
 pub mod StoreDue
+pub mod LoadNumbers
+pub mod LoadReading
+pub mod LoadEntries
+pub mod LoadApart
+pub mod LoadTaking
+pub mod LoadParts
+pub mod LoadFinding
+pub mod LoadChecks
+pub mod LoadFacts

@@ -8,12 +8,14 @@
 
 mod contents;
 pub mod fault;
+mod finding;
 pub mod laws;
 mod laws_saved;
 pub mod loaded;
 mod loading;
 pub mod params;
 mod plan;
+mod sorted;
 
 pub use fault::StoreFault;
 pub use loaded::{Loaded, Places};
