@@ -1,0 +1,5 @@
+use Rattle.store_image.proofs.SavedBodies.{kinds_back, slots_back, pages_back, bodies_lawful}
+use Rattle.store_image.proofs.laws_saved.saved_are_lawful.Goals as goal
+
+pub returns : goal.returns
+returns c = ?
