@@ -1,1 +1,2 @@
 pub mod SavedBodies
+pub mod SavedReads

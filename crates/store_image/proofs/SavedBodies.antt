@@ -1,11 +1,13 @@
 -- Body pages put together from slots, leaves and inner nodes: their kinds, what they hold, and that they are lawful.
-use Rattle.std.proofs.Common.{◌≡◌, inl, inr, ℕ, ◌+◌, ◌-◌, ◌*◌, Bool, cond, List, [], ◌∷◌, ◌++◌, length, map, take, drop, get_or, Option, refl, sym, ◌∙◌, ap, subst, arith}
+use Rattle.std.proofs.Common.{◌≡◌, inl, inr, ℕ, ◌+◌, ◌-◌, ◌*◌, Bool, cond, List, [], ◌∷◌, ◌++◌, length, map, take, drop, get_or, Option, refl, sym, ◌∙◌, ap, subst, arith, zero-add}
 use Rattle.std.specs.Prelude.{◌==◌}
 use Rattle.std.specs.List.{AllByRecursion}
 use Rattle.std.proofs.lemmas.List.{take-append-drop, length-drop, length-take-le, nil_from_length}
 use Rattle.std.proofs.lemmas.List.Sums.{sum_by-cons}
 use Rattle.tree_objects.proofs.Lists.{all_front, all_back, get_all}
 use Rattle.mtree_node.specs.Preorder.{LeafRow, InnerRow}
+use Rattle.node_refs.specs.declared.pages.NodePage.{NodePage}
+use Rattle.node_refs.specs.declared.pages.NodePage.TheVariants as page
 use Rattle.node_places.specs.Nodes.{count_of}
 use Rattle.tree_layout.specs.Layouts.{pages_with}
 use Rattle.tree_layout.specs.Laws.{IsKind, AreKinds}
@@ -66,10 +68,10 @@ module _ (size : ℕ) where
         let left : length (drop size slots) ≡ size * count_of 1 kinds = omega (arith, length-drop size slots, long, ap (λ (n : ℕ). size * n) more) in
         subst (λ (k : ℕ). all_slots (With (k ∷ kinds) slots leaves inners) ≡ slots) (sym one) (ap (λ (l : Rows). take size slots ++ l) (slots_back kinds (drop size slots) leaves inners are.1 left) ∙ take-append-drop size slots)
     | inr (inl two) ↦
-        let same : count_of 1 (kind ∷ kinds) ≡ count_of 1 kinds = subst (λ (k : ℕ). count_of 1 (k ∷ kinds) ≡ count_of 1 kinds) (sym two) (counted 1 2 kinds) in
+        let same : count_of 1 (kind ∷ kinds) ≡ count_of 1 kinds = subst (λ (k : ℕ). count_of 1 (k ∷ kinds) ≡ count_of 1 kinds) (sym two) (counted 1 2 kinds ∙ zero-add (count_of 1 kinds)) in
         subst (λ (k : ℕ). all_slots (With (k ∷ kinds) slots leaves inners) ≡ slots) (sym two) (slots_back kinds slots (drop 63 leaves) inners are.1 (long ∙ ap (λ (n : ℕ). size * n) same))
     | inr (inr three) ↦
-        let same : count_of 1 (kind ∷ kinds) ≡ count_of 1 kinds = subst (λ (k : ℕ). count_of 1 (k ∷ kinds) ≡ count_of 1 kinds) (sym three) (counted 1 3 kinds) in
+        let same : count_of 1 (kind ∷ kinds) ≡ count_of 1 kinds = subst (λ (k : ℕ). count_of 1 (k ∷ kinds) ≡ count_of 1 kinds) (sym three) (counted 1 3 kinds ∙ zero-add (count_of 1 kinds)) in
         subst (λ (k : ℕ). all_slots (With (k ∷ kinds) slots leaves inners) ≡ slots) (sym three) (slots_back kinds slots leaves (drop 1 inners) are.1 (long ∙ ap (λ (n : ℕ). size * n) same))
   ]
 
@@ -78,9 +80,9 @@ module _ (size : ℕ) where
       → node_pages (bodies_with size kinds slots leaves inners) ≡ pages_with kinds leaves inners
   pages_back [] slots leaves inners are = refl
   pages_back (kind ∷ kinds) slots leaves inners are = elim are.0 [
-    | inl one ↦ subst (λ (k : ℕ). node_pages (With (k ∷ kinds) slots leaves inners) ≡ pages_with (k ∷ kinds) leaves inners) (sym one) (ap (λ l. _ ∷ l) (pages_back kinds (drop size slots) leaves inners are.1))
-    | inr (inl two) ↦ subst (λ (k : ℕ). node_pages (With (k ∷ kinds) slots leaves inners) ≡ pages_with (k ∷ kinds) leaves inners) (sym two) (ap (λ l. _ ∷ l) (pages_back kinds slots (drop 63 leaves) inners are.1))
-    | inr (inr three) ↦ subst (λ (k : ℕ). node_pages (With (k ∷ kinds) slots leaves inners) ≡ pages_with (k ∷ kinds) leaves inners) (sym three) (ap (λ l. _ ∷ l) (pages_back kinds slots leaves (drop 1 inners) are.1))
+    | inl one ↦ subst (λ (k : ℕ). node_pages (With (k ∷ kinds) slots leaves inners) ≡ pages_with (k ∷ kinds) leaves inners) (sym one) (ap (λ (l : List NodePage). page.Records ∷ l) (pages_back kinds (drop size slots) leaves inners are.1))
+    | inr (inl two) ↦ subst (λ (k : ℕ). node_pages (With (k ∷ kinds) slots leaves inners) ≡ pages_with (k ∷ kinds) leaves inners) (sym two) (ap (λ (l : List NodePage). page.Leaves (take 63 leaves) ∷ l) (pages_back kinds slots (drop 63 leaves) inners are.1))
+    | inr (inr three) ↦ subst (λ (k : ℕ). node_pages (With (k ∷ kinds) slots leaves inners) ≡ pages_with (k ∷ kinds) leaves inners) (sym three) (ap (λ (l : List NodePage). page.Inner (get_or inners 0 []) ∷ l) (pages_back kinds slots leaves (drop 1 inners) are.1))
   ]
 
 -- what pages of these kinds are put together from
@@ -110,8 +112,8 @@ module _ (v : Values) where
         let rest : AreParts v kinds (drop size slots) leaves inners = record {
           kinds_are = a.kinds_are.1;
           slots_long = omega (arith, length-drop size slots, long);
-          leaves_long = a.leaves_long ∙ ap (λ (n : ℕ). 63 * n) (counted 2 1 kinds);
-          inners_long = a.inners_long ∙ counted 3 1 kinds;
+          leaves_long = a.leaves_long ∙ ap (λ (n : ℕ). 63 * n) (counted 2 1 kinds ∙ zero-add (count_of 2 kinds));
+          inners_long = a.inners_long ∙ counted 3 1 kinds ∙ zero-add (count_of 3 kinds);
           slots_are = each_left (IsRow v) size slots a.slots_are;
           leaves_are = a.leaves_are;
           inners_are = a.inners_are;
@@ -126,9 +128,9 @@ module _ (v : Values) where
         } in
         let rest : AreParts v kinds slots (drop 63 leaves) inners = record {
           kinds_are = a.kinds_are.1;
-          slots_long = a.slots_long ∙ ap (λ (n : ℕ). size * n) (counted 1 2 kinds);
+          slots_long = a.slots_long ∙ ap (λ (n : ℕ). size * n) (counted 1 2 kinds ∙ zero-add (count_of 1 kinds));
           leaves_long = omega (arith, length-drop 63 leaves, long);
-          inners_long = a.inners_long ∙ counted 3 2 kinds;
+          inners_long = a.inners_long ∙ counted 3 2 kinds ∙ zero-add (count_of 3 kinds);
           slots_are = a.slots_are;
           leaves_are = each_left IsLeaf 63 leaves a.leaves_are;
           inners_are = a.inners_are;
@@ -140,8 +142,8 @@ module _ (v : Values) where
         let first : IsBody v (body.Inner (get_or inners 0 [])) = get_all (AreInner v) inners 0 [] a.inners_are (omega (arith, long)) in
         let rest : AreParts v kinds slots leaves (drop 1 inners) = record {
           kinds_are = a.kinds_are.1;
-          slots_long = a.slots_long ∙ ap (λ (n : ℕ). size * n) (counted 1 3 kinds);
-          leaves_long = a.leaves_long ∙ ap (λ (n : ℕ). 63 * n) (counted 2 3 kinds);
+          slots_long = a.slots_long ∙ ap (λ (n : ℕ). size * n) (counted 1 3 kinds ∙ zero-add (count_of 1 kinds));
+          leaves_long = a.leaves_long ∙ ap (λ (n : ℕ). 63 * n) (counted 2 3 kinds ∙ zero-add (count_of 2 kinds));
           inners_long = omega (arith, length-drop 1 inners, long);
           slots_are = a.slots_are;
           leaves_are = a.leaves_are;
