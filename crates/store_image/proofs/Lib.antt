@@ -1,2 +1,3 @@
 pub mod SavedBodies
 pub mod SavedReads
+pub mod SavedNumbers
