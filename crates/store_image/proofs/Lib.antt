@@ -1,3 +1,4 @@
 pub mod SavedBodies
 pub mod SavedReads
 pub mod SavedNumbers
+pub mod SavedSlots
