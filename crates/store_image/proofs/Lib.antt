@@ -15,3 +15,8 @@ pub mod LoadParts
 pub mod LoadFinding
 pub mod LoadChecks
 pub mod LoadFacts
+pub mod SavedBodies
+pub mod SavedReads
+pub mod SavedNumbers
+pub mod SavedSlots
+pub mod SavedNodes
