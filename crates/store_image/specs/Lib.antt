@@ -5,3 +5,4 @@ pub mod Placing
 pub mod Clustered
 pub mod Stores
 pub mod SavedLaws
+pub mod inside

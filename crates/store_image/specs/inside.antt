@@ -1,0 +1,2 @@
+-- What only code and proofs speak of.
+pub mod Saves
