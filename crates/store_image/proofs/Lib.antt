@@ -1,0 +1,3 @@
+pub mod PlanFilling
+pub mod PlanWrites
+pub mod PlanBodies
