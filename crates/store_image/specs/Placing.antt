@@ -1,5 +1,5 @@
 -- How a save gives places, and the pages that it leads to.
-use Rattle.std.specs.Prelude.{◌≡◌, ◌≢◌, ℕ, ◌+◌, ◌/◌, ◌<◌, ◌≤◌, ◌==◌, nat_eq, if◌then◌else◌, List, [], ◌∷◌, length, drop, take, map, get_or, unwrap_or, Option, Some, None, Result, Ok, Err, IsTrue}
+use Rattle.std.specs.Prelude.{◌≡◌, ◌≢◌, ℕ, ◌+◌, ◌/◌, ◌<◌, ◌≤◌, ◌^◌, ◌==◌, nat_eq, if◌then◌else◌, List, [], ◌∷◌, length, drop, take, map, get_or, unwrap_or, Option, Some, None, Result, Ok, Err, IsTrue}
 use Rattle.std.specs.Cmp.Lexicographic.{pointwise}
 use Rattle.std.specs.List.{AllByRecursion}
 use Rattle.std.specs.FinMap as maps
@@ -13,6 +13,7 @@ use Rattle.mtree_index.specs.Plain.{PlainTree}
 use Rattle.mtree_index.specs.Tree.{IsLawful}
 use Rattle.tree_objects.specs.Laws.{AllPass}
 use Rattle.node_places.specs.Slots.{record_slots, AreApart}
+use Rattle.count_book.specs.declared.row.Row.{Row}
 use Rattle.stored_lines.specs.declared.line.Line.{Line}
 use Rattle.stored_lines.specs.Lines.{line_in}
 use Rattle.kept_clusters.specs.Kept.{Kept, Fit, with_tags}
@@ -167,6 +168,16 @@ pub record IsKept (v : Values) (records : held.Held) (kept : Kept) : Type 0 wher
   pub fits : Fit records kept
   pub spelled : AllPass (is_spelled v.metric v.dim) kept.tree
 
+-- what of records and clusters a page has four bytes for: numbers, counts, anchors, and distances of vectors of the width
+pub record AreBounded (dist : List ℕ → List ℕ → ℕ) (records : held.Held) (kept : Kept) : Type 0 where
+  pub numbers : (a : ℕ) (x : List ℕ) → maps.get records.vectors a ≡ Some x → a < 2 ^ 32
+  pub counts : (a : ℕ) (r : Row) → maps.get kept.counts.rows a ≡ Some r → r.count < 2 ^ 32
+  pub anchors :
+      (a : ℕ) (r : Row) (b : ℕ) → maps.get kept.counts.rows a ≡ Some r → r.anchor ≡ Some b
+      → b < 2 ^ 32
+  pub distances :
+      (u x : List ℕ) → IsVector records.width u → IsVector records.width x → dist u x < 2 ^ 32
+
 -- what a save needs of the store before it, beside its pages: a lawful head, and records and clusters that pages can hold
 pub record CanBeSaved
     (dist : List ℕ → List ℕ → ℕ) (most : ℕ → ℕ) (h : HeadValue) (records : held.Held)
@@ -176,3 +187,4 @@ pub record CanBeSaved
   pub kept_is : IsKept h.values records kept
   pub lawful : IsLawful dist most kept.tree
   pub greatest : most kept.tree.width ≤ greatest_of h.values.metric kept.tree.width
+  pub bounded : AreBounded dist records kept
