@@ -1,14 +1,20 @@
 -- Pages that are filled slot by slot.
-use Rattle.std.proofs.Common.{◌≡◌, ℕ, zero, suc, ◌+◌, ◌-◌, ◌<◌, ◌≤◌, List, [], ◌∷◌, ◌++◌, length, map, take, drop, set, get_or, replicate, Option, None, refl, sym, ◌∙◌, ap, subst, arith, length-append, append_assoc}
-use Rattle.std.specs.Prelude.{◌≢◌}
+use Rattle.std.proofs.Common.{◌≡◌, ℕ, zero, suc, ◌+◌, ◌-◌, ◌<◌, ◌≤◌, Bool, cond, List, [], ◌∷◌, ◌++◌, length, map, take, drop, set, get_or, replicate, Option, None, refl, sym, ◌∙◌, ap, subst, arith, length-append, append_assoc}
+use Rattle.std.specs.Prelude.{◌≢◌, ◌==◌}
 use Rattle.std.specs.List.{AllByRecursion}
-use Rattle.std.proofs.lemmas.List.{length-map, length-replicate, length-take-le, get_or_at, set_at, map_more, append-nil}
+use Rattle.std.proofs.lemmas.Bool.{ne_eqb}
+use Rattle.std.proofs.lemmas.List.{length-map, length-drop, take-map, drop-map, get_or-drop, length-replicate, length-take-le, get_or_at, set_at, map_more, append-nil}
 use Rattle.vec_record.specs.Limits.{width_of}
-use Rattle.mtree_node.specs.Preorder.{LeafRow}
+use Rattle.mtree_node.specs.declared.shape.Shape.{Shape}
+use Rattle.mtree_node.specs.Preorder.{LeafRow, InnerRow}
+use Rattle.tree_layout.specs.Layouts.{inner_for}
 use Rattle.page_layout.specs.declared.slot.Slot.{Slot}
+use Rattle.page_layout.specs.declared.body.Body.{Body}
+use Rattle.page_layout.specs.declared.body.Body.TheVariants as body
 use Rattle.page_layout.specs.Heads.{Values}
 use Rattle.page_layout.specs.Slots.{Rows, AreRows, IsRow, slots_in_page}
 use Rattle.page_layout.specs.Leaves.{IsLeafRow, IsLeaf, AreLeaves}
+use Rattle.store_image.specs.inside.Saves.{first_body}
 
 pub all_at : {A : Type 0} (P : A → Type 0) (f : ℕ → A) (ns : List ℕ) (k : ℕ) → k < length ns → AllByRecursion P (map f ns) → P (f (get_or ns k 0))
 all_at P f [] k lt all = absurd (omega (arith, lt))
@@ -59,9 +65,6 @@ module _ {A : Type 0} (free : A) (f : ℕ → A) (ns : List ℕ) where
       ∙ sym (append_assoc (map f (take i ns)) (x ∷ []) rest)
       ∙ ap (λ (l : List A). l ++ rest) (sym (map_more f ns i 0 (omega (arith, lt))))
 
-  pub half_none : (n : ℕ) → length ns ≡ n → replicate n free ≡ half 0
-  half_none n is = ap (λ (m : ℕ). replicate m free) (sym is)
-
   pub half_done : (i : ℕ) → i ≡ length ns → half i ≡ map f ns
   half_done i is =
       let none : length ns - i ≡ 0 = omega (arith, is) in
@@ -92,3 +95,33 @@ half_leaves f ns i le are = record {
 pub leaf_numbers : (rows : List LeafRow) → AllByRecursion IsLeafRow rows → AllByRecursion (λ (row : LeafRow). row.0 ≢ 0) rows
 leaf_numbers [] all = tt
 leaf_numbers (row ∷ rows) all = (all.0.number, leaf_numbers rows all.1)
+
+-- so many of what a function gives, from a place on
+pub part_map : {A : Type 0} (f : ℕ → A) (n a : ℕ) (ns : List ℕ) → map f (take n (drop a ns)) ≡ take n (drop a (map f ns))
+part_map f n a ns = sym (ap (λ l. take n l) (drop-map f a ns) ∙ take-map f n (drop a ns))
+
+at_most : {A : Type 0} (n : ℕ) (xs : List A) → length (take n xs) ≤ length xs
+at_most zero xs = omega arith
+at_most (suc n) [] = omega arith
+at_most (suc n) (x ∷ xs) = omega (arith, at_most n xs)
+
+pub part_fits : {A : Type 0} (f : ℕ → A) (n a : ℕ) (ns : List ℕ) → 0 < n → length (take n (drop a (map f ns))) ≡ n → a + n ≤ length ns
+part_fits f n a ns some is =
+    let l : length (take n (drop a (map f ns))) ≡ length (take n (drop a ns)) = ap length (sym (part_map f n a ns)) ∙ length-map (take n (drop a ns)) f in
+    omega (arith, l, is, at_most n (drop a ns), length-drop a ns, some)
+
+-- a page that is neither of records nor of leaves
+pub body_else : (size kind : ℕ) (slots : Rows) (leaves : List (List LeafRow)) (inners : List (List InnerRow)) → (kind ≡ 1 → ⊥) → (kind ≡ 2 → ⊥)
+    → first_body size kind slots leaves inners ≡ body.Inner (get_or inners 0 [])
+body_else size kind slots leaves inners one two =
+    ap (λ (b : Bool). cond b (body.Slots (take size slots)) (cond (kind == 2) (body.Leaves (take 63 leaves)) (body.Inner (get_or inners 0 [])))) (ne_eqb kind 1 one)
+    ∙ ap (λ (b : Bool). cond b (body.Leaves (take 63 leaves)) (body.Inner (get_or inners 0 []))) (ne_eqb kind 2 two)
+
+pub inner_else : (shapes : List Shape) (ns : List ℕ) (a : ℕ) → inner_for shapes (get_or ns a 0) ≡ get_or (drop a (map (inner_for shapes) ns)) 0 []
+inner_else shapes ns a =
+    sym (get_or-drop a (map (inner_for shapes) ns) 0 [] ∙ at_map ns (a + 0) ∙ ap (λ (k : ℕ). inner_for shapes (get_or ns k 0)) (omega arith))
+  where
+    at_map : (l : List ℕ) (k : ℕ) → get_or (map (inner_for shapes) l) k [] ≡ inner_for shapes (get_or l k 0)
+    at_map [] k = refl
+    at_map (n ∷ l) zero = refl
+    at_map (n ∷ l) (suc k) = at_map l k

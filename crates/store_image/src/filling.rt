@@ -1,14 +1,12 @@
 //! A body page of a save, filled in place: it takes no memory.
 
-ghost use Rattle.std.specs.Prelude.{◌≡◌, ◌≤◌, ◌<◌, ◌+◌, ◌^◌, length, map};
-ghost use Rattle.std.specs.List.{AllByRecursion};
+ghost use Rattle.std.specs.Prelude.{◌≡◌, ◌≤◌, ◌<◌, ◌+◌, ◌^◌, length, map, take, drop, get_or};
 ghost use Rattle.vec_record.specs.Vectors.{IsWidth};
 ghost use Rattle.vec_record.specs.Limits.{width_of};
-ghost use Rattle.tree_layout.specs.Layouts.{leaf_for, inner_for};
+ghost use Rattle.tree_layout.specs.Layouts.{leaf_for};
 ghost use Rattle.page_layout.specs.Heads.{values_of, plain};
 ghost use Rattle.page_layout.specs.Slots.{IsRow, AreRows, FillsRow, record_page};
 ghost use Rattle.page_layout.specs.Leaves.{AreLeaves, leaf_page};
-ghost use Rattle.page_layout.specs.Inner.{AreInner, inner_page};
 ghost use Rattle.page_layout.specs.Bodies.{IsBody, body_bytes};
 ghost use Rattle.store_image.specs.Placing.{size_on, slot_for};
 ghost use Rattle.store_image.specs.inside.Saves.{body_behind, done_after};
@@ -86,6 +84,25 @@ fn fill_leaves(shapes: &Shapes, leaves: &[u32], out: &mut Page)
     }
 }
 
+/// So many of the numbers, from a place on.
+fn part(numbers: &[u32], from: usize, count: usize) -> &[u32]
+    requires { from + count ≤ length numbers.now }
+    ensures { result.now ≡ take count (drop from numbers.now) }
+{
+    &numbers[from..from + count]
+}
+
+/// The number at a place, 0 past the last.
+fn number_at(numbers: &[u32], place: usize) -> u32
+    ensures { result ≡ get_or numbers.now place 0 }
+{
+    if place < numbers.len() {
+        numbers[place]
+    } else {
+        0
+    }
+}
+
 /// Fills a page of a kind with what is next, and counts that as done.
 pub(crate) fn fill_body<M: Metric>(
     state: &Loaded<M>,
@@ -105,17 +122,18 @@ pub(crate) fn fill_body<M: Metric>(
 {
     match kind {
         1 => {
-            let end = done.slots + slots_in_page(&state.head.params);
-            fill_slots(state, &next.numbers[done.slots..end], out);
-            done.slots = end;
+            let size = slots_in_page(&state.head.params);
+            let numbers = part(&next.numbers, done.slots, size);
+            fill_slots(state, numbers, out);
+            done.slots += size;
         }
         2 => {
-            let end = done.leaves + 63;
-            fill_leaves(&next.shapes, &next.laid.leaves[done.leaves..end], out);
-            done.leaves = end;
+            let leaves = part(&next.laid.leaves, done.leaves, 63);
+            fill_leaves(&next.shapes, leaves, out);
+            done.leaves += 63;
         }
         _ => {
-            let number = next.laid.inners.get(done.inners).copied().unwrap_or(0);
+            let number = number_at(&next.laid.inners, done.inners);
             write_inner(&state.head.params, inner_at(&next.shapes, number), out);
             done.inners += 1;
         }

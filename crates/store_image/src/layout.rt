@@ -1,21 +1,25 @@
 //! What a save leads to: its head, the numbers by record slot, and the nodes where they are laid.
 
-ghost use Rattle.std.specs.Prelude.{◌≡◌, ◌+◌, ◌<◌, ◌^◌, Ok, IfOk, length, get_or};
+ghost use Rattle.std.specs.Prelude.{◌≡◌, ℕ, ◌+◌, ◌<◌, ◌^◌, Ok, IfOk, OnOk, length, get_or};
+ghost use Rattle.std.specs.Prelude.{slice_index};
 ghost use Rattle.std.specs.FinMap as maps;
-ghost use Rattle.vec_record.specs.Limits.{width_of};
+ghost use Rattle.node_places.specs.Slots.{record_slots, AreApart};
 ghost use Rattle.stored_tree.specs.Shapes.{shapes_of};
 ghost use Rattle.page_layout.specs.Heads.{plain, IsHead};
 ghost use Rattle.page_layout.specs.Laws.{IsPage};
 ghost use Rattle.store_image.specs.Loading.{head_in_pages};
-ghost use Rattle.store_image.specs.Placing.{bodies_on, IsPaged, IsKept, CanSave, CanBeSaved};
-ghost use Rattle.store_image.specs.inside.Saves.{IsNext};
+ghost use Rattle.store_image.specs.Placing.{size_on, bodies_on, AreBounded, IsPaged, IsKept};
+ghost use Rattle.store_image.specs.Placing.{CanSave, CanBeSaved};
+ghost use Rattle.store_image.specs.inside.Saves.{IsNext, IsSmallRow};
 
 use crate::filling::slots_in_page;
 use crate::laws_saved::saved_are_read;
 use crate::loaded::Loaded;
+use count_book::CountBook;
 use mtree_index::MTree;
 use mtree_index::laws::trees_are_small;
 use mtree_node::{Shapes, flatten};
+use node_places::laws::records_stand;
 use node_places::record_slots;
 use page_gate::{Page, Pages};
 use page_layout::Head;
@@ -55,12 +59,49 @@ fn know_head(pages: &Pages, head: &Head)
     }
 }
 
+/// The count and the anchor of a number have four bytes.
+fn know_row(counts: &CountBook, number: Number)
+    ensures { IsSmallRow (maps.get counts.now.rows number) }
+{
+    let _count = counts.count_of(number).unwrap_or(0);
+    let _anchor = counts.anchor_of(number).unwrap_or(0);
+}
+
+/// So have the numbers in slots, with their counts and anchors.
+fn know_rows(counts: &CountBook, numbers: &[Number])
+    ensures numbers { (k : ℕ) → slice_index numbers.now k < 2 ^ 32 }
+    ensures rows { (k : ℕ) → k < length numbers.now
+        → IsSmallRow (maps.get counts.now.rows (get_or numbers.now k 0)) }
+{
+    for k in 0..numbers.len() {
+        know_row(counts, numbers[k]);
+    }
+}
+
+/// The numbers by record slot after a save of a state.
+fn next_numbers<M: Metric>(alloc: Global, state: &Loaded<M>) -> Result<Vec<Number>, AllocError>
+    requires kept { IsKept (plain state.now.head).values state.now.records state.now.clusters }
+    requires apart { AreApart state.now.places.numbers.items }
+    ensures numbers { IfOk result (λ v. v.items
+        ≡ record_slots (size_on (plain state.now.head).values) state.now.records.vectors
+        state.now.places.numbers.items) }
+    ensures bounded { OnOk result (AreBounded M.dist state.now.records state.now.clusters) }
+{
+    records_stand();
+    let _width = state.records.width();
+    let size = slots_in_page(&state.head.params);
+    let numbers = record_slots(alloc, size, &state.records, &state.places.numbers)?;
+    know_rows(state.clusters.counts(), &numbers);
+    Ok(numbers)
+}
+
 /// A state over its pages can be saved.
-pub(crate) fn know_saved<M: Metric>(pages: &Pages, state: &Loaded<M>)
+fn know_saved<M: Metric>(pages: &Pages, state: &Loaded<M>)
     requires kind { state.now.head.params.metric ≡ M.KIND }
-    requires paged { IsPaged (plain state.now.head) state.now.places pages.now.list }
+    requires head { head_in_pages pages.now.list ≡ Ok (plain state.now.head) }
     requires can { CanSave (plain state.now.head) state.now.records }
     requires kept { IsKept (plain state.now.head).values state.now.records state.now.clusters }
+    requires bounded { AreBounded M.dist state.now.records state.now.clusters }
     ensures { CanBeSaved M.dist M.most (plain state.now.head) state.now.records
         state.now.clusters }
 {
@@ -112,24 +153,22 @@ pub(crate) fn next_places<M: Metric>(
     requires paged { IsPaged (plain state.now.head) state.now.places pages.now.list }
     requires can { CanSave (plain state.now.head) state.now.records }
     requires kept { IsKept (plain state.now.head).values state.now.records state.now.clusters }
-    ensures { IfOk result (IsNext (plain state.now.head)
+    ensures next { IfOk result (IsNext (plain state.now.head)
         (bodies_on (plain state.now.head) pages.now.list) state.now.records.vectors
         state.now.clusters) }
+    ensures saved { OnOk result (CanBeSaved M.dist M.most (plain state.now.head)
+        state.now.records state.now.clusters) }
 {
-    know_saved(pages, state);
     saved_are_read();
     layouts_are_sized();
     trees_are_small();
     trees_have_few_shapes();
+    let numbers = next_numbers(alloc, state)?;
+    know_saved(pages, state);
     let size = slots_in_page(&state.head.params);
-    let numbers = record_slots(alloc, size, &state.records, &state.places.numbers)?;
     let mut shapes = shapes_of(alloc, state.clusters.index())?;
-    let laid = lay(
-        alloc,
-        &state.places.kinds,
-        numbers.len() / size,
-        &shapes,
-    )?;
+    let records = numbers.len() / size;
+    let laid = lay(alloc, &state.places.kinds, records, &shapes)?;
     refer(&mut shapes, &laid.refs);
     Ok(Next {
         head: next_head(state, &laid),

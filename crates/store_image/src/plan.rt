@@ -17,7 +17,7 @@ ghost use Rattle.store_image.specs.inside.Saves.{is_as_was, one_write, next_bodi
 use crate::filling::{Done, fill_body};
 use crate::laws::heads_count_pages;
 use crate::laws_saved::{saved_are_lawful, saved_are_read, saved_load};
-use crate::layout::{Next, know_saved, next_places};
+use crate::layout::{Next, next_places};
 use crate::loaded::{Loaded, Places};
 use page_gate::{Page, PageWrite, PageWrites, Pages};
 use page_layout::write_head;
@@ -133,7 +133,6 @@ pub fn plan_save<M: Metric>(
         → Stand M.dist records state.new.clusters) }
     ensures err { OnErr result (state.new ≡ state.old) }
 {
-    know_saved(pages, state);
     heads_count_pages();
     saved_are_lawful();
     saved_are_read();

@@ -1,8 +1,10 @@
 -- What single steps of a save come to.
-use Rattle.std.specs.Prelude.{◌≡◌, ℕ, ◌+◌, ◌==◌, ◌&&◌, nat_eq, nat_lt, Bool, if◌then◌else◌, List, [], ◌∷◌, length, map, take, drop, get_or}
+use Rattle.std.specs.Prelude.{◌≡◌, ℕ, ◌+◌, ◌<◌, ◌^◌, ◌==◌, ◌&&◌, nat_eq, nat_lt, Bool, if◌then◌else◌, List, [], ◌∷◌, length, map, take, drop, get_or, unwrap_or, Option, option_map}
 use Rattle.std.specs.Cmp.Lexicographic.{pointwise}
 use Rattle.vec_record.specs.Held as held
 use Rattle.mtree_node.specs.Preorder.{LeafRow, InnerRow}
+use Rattle.count_book.specs.declared.row.Row.{Row}
+use Rattle.count_book.specs.Counted.{anchor_in}
 use Rattle.kept_clusters.specs.Kept.{Kept}
 use Rattle.stored_tree.specs.Shapes.{shapes_of}
 use Rattle.tree_layout.specs.Layouts.{referred, leaf_for, inner_for}
@@ -67,6 +69,11 @@ next_bodies v next vectors kept =
 abbrev pub next_pages : Values → Next → held.Rows → Kept → List (List ℕ)
 next_pages v next vectors kept =
     head_page (plain next.head) ∷ map (body_bytes v) (next_bodies v next vectors kept)
+
+-- the count and the anchor of a row have four bytes, and so have those of no row
+pub record IsSmallRow (row : Option Row) : Type 0 where
+  pub count : unwrap_or (option_map (λ (r : Row). r.count) row) 0 < 2 ^ 32
+  pub anchor : unwrap_or (anchor_in row) 0 < 2 ^ 32
 
 -- what comes next is what a save gives of body pages and of what is in memory
 pub record IsNext (h : HeadValue) (bodies : List Body) (vectors : held.Rows) (kept : Kept) (next : Next) : Type 0 where
