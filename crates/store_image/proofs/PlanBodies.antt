@@ -17,6 +17,12 @@ use Rattle.store_image.specs.Placing.{size_on, bodies_with, writes_from}
 use Rattle.store_image.specs.inside.Saves.{one_write, done_after, next_slots, next_leaves, next_inners, body_behind, bodies_behind, next_bodies, next_pages}
 use Rattle.store_image.proofs.PlanWrites.{writes_more, writes_none}
 
+-- an item that is there, whatever stands for one that isn't
+pub get_or_any : (xs : List ℕ) (i d e : ℕ) → i < length xs → get_or xs i d ≡ get_or xs i e
+get_or_any [] i d e lt = absurd (omega (arith, lt))
+get_or_any (x ∷ xs) zero d e lt = refl
+get_or_any (x ∷ xs) (suc i) d e lt = get_or_any xs i d e (omega (arith, lt))
+
 -- the first page, and the rest of them
 module _ (size : ℕ) (slots : Rows) (leaves : List (List LeafRow)) (inners : List (List InnerRow)) where
   abbrev bodies_from : List ℕ → Done → List Body

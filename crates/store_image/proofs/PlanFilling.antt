@@ -100,6 +100,9 @@ leaf_numbers (row ∷ rows) all = (all.0.number, leaf_numbers rows all.1)
 pub part_map : {A : Type 0} (f : ℕ → A) (n a : ℕ) (ns : List ℕ) → map f (take n (drop a ns)) ≡ take n (drop a (map f ns))
 part_map f n a ns = sym (ap (λ l. take n l) (drop-map f a ns) ∙ take-map f n (drop a ns))
 
+pub part_is : {A : Type 0} (f : ℕ → A) (n a : ℕ) (ns mine all : List ℕ) → mine ≡ take n (drop a all) → all ≡ ns → map f mine ≡ take n (drop a (map f ns))
+part_is f n a ns mine all is same = ap (map f) (is ∙ ap (λ (l : List ℕ). take n (drop a l)) same) ∙ part_map f n a ns
+
 at_most : {A : Type 0} (n : ℕ) (xs : List A) → length (take n xs) ≤ length xs
 at_most zero xs = omega arith
 at_most (suc n) [] = omega arith

@@ -3,10 +3,12 @@
 ghost use Rattle.std.specs.Prelude.{◌≡◌, ℕ, ◌+◌, ◌<◌, ◌^◌, Ok, IfOk, OnOk, length, get_or};
 ghost use Rattle.std.specs.Prelude.{slice_index};
 ghost use Rattle.std.specs.FinMap as maps;
+ghost use Rattle.vec_record.specs.Held.{NoneAtZero};
+ghost use Rattle.vec_record.specs.Vectors.{IsWidth};
+ghost use Rattle.mtree_index.specs.Tree.{IsLawful};
 ghost use Rattle.node_places.specs.Slots.{record_slots, AreApart};
 ghost use Rattle.stored_tree.specs.Shapes.{shapes_of};
 ghost use Rattle.page_layout.specs.Heads.{plain, IsHead};
-ghost use Rattle.page_layout.specs.Laws.{IsPage};
 ghost use Rattle.store_image.specs.Loading.{head_in_pages};
 ghost use Rattle.store_image.specs.Placing.{size_on, bodies_on, AreBounded, IsPaged, IsKept};
 ghost use Rattle.store_image.specs.Placing.{CanSave, CanBeSaved};
@@ -28,7 +30,7 @@ use std::alloc::{AllocError, Global};
 use tree_layout::laws::layouts_are_sized;
 use tree_layout::{Layout, lay, refer};
 use tree_objects::laws::trees_have_few_shapes;
-use vec_record::{Metric, Number};
+use vec_record::{Metric, Number, Records};
 
 /// What a save leads to: the head, the numbers by record slot, the nodes with the references of
 /// their children, and where they are laid.
@@ -43,7 +45,8 @@ pub(crate) struct Next {
 /// The bytes of a page, of which there are 16,384.
 fn bytes_of(page: &Page) -> &[u8]
     ensures same { result.now ≡ page.now }
-    ensures page { IsPage page.now }
+    ensures length { length page.now ≡ 16384 }
+    ensures small { (k : ℕ) → slice_index result.now k < 256 }
 {
     page.as_slice()
 }
@@ -57,6 +60,14 @@ fn know_head(pages: &Pages, head: &Head)
     if let Some(page) = pages.page(1) {
         let _bytes = bytes_of(page);
     }
+}
+
+/// Records have a lawful width, and none has the number 0.
+fn know_records(records: &Records)
+    ensures width { IsWidth records.now.width }
+    ensures none { NoneAtZero records.now.vectors }
+{
+    let _width = records.width();
 }
 
 /// The count and the anchor of a number have four bytes.
@@ -88,11 +99,18 @@ fn next_numbers<M: Metric>(alloc: Global, state: &Loaded<M>) -> Result<Vec<Numbe
     ensures bounded { OnOk result (AreBounded M.dist state.now.records state.now.clusters) }
 {
     records_stand();
-    let _width = state.records.width();
+    know_records(&state.records);
     let size = slots_in_page(&state.head.params);
     let numbers = record_slots(alloc, size, &state.records, &state.places.numbers)?;
     know_rows(state.clusters.counts(), &numbers);
     Ok(numbers)
+}
+
+/// A tree is lawful.
+fn know_tree<M: Metric>(index: &MTree<M>)
+    ensures { IsLawful M.dist M.most index.now }
+{
+    let _root = index.root();
 }
 
 /// A state over its pages can be saved.
@@ -106,7 +124,7 @@ fn know_saved<M: Metric>(pages: &Pages, state: &Loaded<M>)
         state.now.clusters }
 {
     know_head(pages, &state.head);
-    let _root = state.clusters.index().root();
+    know_tree(state.clusters.index());
 }
 
 /// The nodes of a tree in preorder.
