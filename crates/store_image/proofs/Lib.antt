@@ -15,6 +15,10 @@ pub mod LoadParts
 pub mod LoadFinding
 pub mod LoadChecks
 pub mod LoadFacts
+pub mod PlanFilling
+pub mod PlanWrites
+pub mod PlanBodies
+pub mod PlanLayout
 pub mod SavedBodies
 pub mod SavedReads
 pub mod SavedNumbers

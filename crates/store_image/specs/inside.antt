@@ -1,2 +1,3 @@
 -- What only code and proofs speak of.
 pub mod Reads
+pub mod Saves

@@ -9,8 +9,10 @@
 mod contents;
 pub mod fault;
 mod finding;
+mod filling;
 pub mod laws;
 mod laws_saved;
+mod layout;
 pub mod loaded;
 mod loading;
 pub mod params;
