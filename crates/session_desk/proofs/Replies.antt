@@ -1,11 +1,11 @@
 -- The answer to one request.
-use Rattle.std.proofs.Common.{◌≡◌, ◌⊎◌, inl, inr, ℕ, Bool, false, cond, List, ◌++◌, take, Result, refl, sym, ap, subst, ◌∙◌}
+use Rattle.std.proofs.Common.{◌≡◌, ◌⊎◌, inl, inr, ℕ, ◌+◌, Bool, false, cond, List, ◌++◌, take, Result, refl, sym, ap, subst, ◌∙◌}
 use Rattle.std.specs.Prelude.{Option, None, Ok, Err, IfOk}
 use Rattle.std.specs.List.{list_any}
 use Rattle.std.proofs.lemmas.List.{append-nil}
 use Rattle.vec_record.specs.Held.{Rows}
 use Rattle.vec_record.specs.declared.change.Change.{Change}
-use Rattle.event_feed.specs.Meanings.{Slots}
+use Rattle.event_feed.specs.Meanings.{Slots, told_all}
 use Rattle.site_disk.specs.State.{SiteState, IsNow, Safe}
 use Rattle.site_disk.specs.Calls.{Speaks}
 use Rattle.site_disk.proofs.Moments.{start, after_say}
@@ -14,14 +14,15 @@ use Rattle.page_gate.specs.Promises.{Holds}
 use Rattle.store_image.specs.Stores.{IsStore, LoadsAreStores}
 use Rattle.page_layout.specs.Heads.{Values}
 use Rattle.warehouse_core.specs.declared.refusal.Refusal.{Refusal}
-use Rattle.warehouse_core.specs.States.{State}
-use Rattle.warehouse_core.specs.Applying.{due, IsBefore}
+use Rattle.warehouse_core.specs.States.{State, IsClustered}
+use Rattle.warehouse_core.specs.Batches.{rows_after, events_of}
+use Rattle.warehouse_core.specs.Applying.{due, events_due, events_unless_refused, Accepts, IsBefore}
 use Rattle.session_desk.specs.declared.status.Status.{Status}
 use Rattle.session_desk.specs.declared.requests.Asked as read
 use Rattle.session_desk.specs.declared.requests.Asked.TheVariants as asked
 use Rattle.session_desk.specs.Input.{is_long}
 use Rattle.session_desk.specs.Answers.{refusal_line}
-use Rattle.session_desk.specs.Session.{Request, Batch, Answer, batch_answer, refuses, body_of}
+use Rattle.session_desk.specs.Session.{Request, Batch, Answer, SessionState, batch_answer, refuses, body_of}
 use Rattle.session_desk.specs.Asking.{IsAsked}
 use Rattle.session_desk.specs.Talks.{Desk, desk_at, desk_behind, IsServing, answer_on, IsStoreOf, IsGiven, IsAnswered, Answering, IsReplying}
 use Rattle.session_desk.proofs.Going.{safe_as}
@@ -44,6 +45,28 @@ answer-due w slots lines body r given is =
     let at = asked-lines lines body given in
     batch-answer-is w slots lines body at.0 at.1 ∙ ap (batch_answer w.values (desk_at w slots).state) is
 
+abbrev desk-with : Values → Rows → ℕ → Slots → Desk
+desk-with v rows batches slots = record { values = v; state = record { rows = rows; batches = batches; slots = slots } }
+
+-- an answer that accepts goes on to the desk behind it
+pub accepted-batch : (w next : State) (slots slots' : Slots) (lines : List (List ℕ)) (body old new : List ℕ) → IsClustered w
+    → IsAsked (asked.Batch body) (Batch lines) → Accepts body w next old new → slots' ≡ told_all (events_due w body) slots → IsAnswered (desk_at w slots) (Batch lines) false (desk_at next slots') old new
+accepted-batch w next slots slots' lines body old new stand given accepts told =
+    let d = desk_at w slots in
+    let changes = accepts.changes in
+    let rows = rows_after w.values w.rows changes in
+    let is : answer_on d (Batch lines) ≡ batch_answer w.values d.state (Ok changes) = answer-due w slots lines body (Ok changes) given accepts.accepted in
+    let now : slots' ≡ told_all (events_of w.values w.rows changes) slots = told ∙ ap (λ (r : Result (List Change) Refusal). told_all (events_unless_refused w.values w.rows r) slots) accepts.accepted in
+    record {
+      given = record { text = accepts.receipt stand ∙ ap (λ (x : Answer). old ++ x.text) (sym is); refused_is = ap (λ (x : Answer). x.refused) (sym is) };
+      desk =
+          ap (λ (v : Values). desk-with v next.rows next.batches slots') accepts.values
+          ∙ ap (λ (r : Rows). desk-with w.values r next.batches slots') accepts.rows
+          ∙ ap (λ (n : ℕ). desk-with w.values rows n slots') accepts.batches
+          ∙ ap (λ (s : Slots). desk-with w.values rows (w.batches + 1) s) now
+          ∙ ap (desk_behind d) (sym is);
+    }
+
 -- an answer that refuses leaves the desk
 pub refused-batch : (w next : State) (slots slots' : Slots) (lines : List (List ℕ)) (body : List ℕ) (refusal : Refusal) (n : ℕ) (p : Option ℕ) (refused : Bool) (old mid new : List ℕ)
     → IsAsked (asked.Batch body) (Batch lines) → due w body ≡ Err refusal → batch_answer w.values (desk_at w slots).state (Err refusal) ≡ refuses n p → next ≡ w → slots' ≡ slots → mid ≡ old
@@ -60,21 +83,21 @@ refused-batch w next slots slots' lines body refusal n p refused old mid new giv
     }
 
 -- the one image of a warehouse that is at rest is its store
-pub rest-store : LoadsAreStores → (w : State) (a : SiteState) → IsServing w → Holds w.pages a → (c : List ℕ) → a.may_leave c → IsBefore w c
-rest-store stores w a serving holds c left =
-    let l = serving.loads in
+pub rest-store : LoadsAreStores → (w : State) (a : SiteState) → IsServing w → IsClustered w → Holds w.pages a → (c : List ℕ) → a.may_leave c → IsBefore w c
+rest-store stores w a serving stand holds c left =
+    let l = serving.loads stand in
     let opens : opening c ≡ Opens w.pages = ap opening (holds.only c left) ∙ holds.list in
-    let store = stores c w.pages l.image opens l.loads in
+    let store = stores c w.pages l.image opens l.loads (serving.due stand) in
     let A : Values → Type 0 = λ v. IsStore v l.image.records.vectors l.image.head.batches c in
     let B : Rows → Type 0 = λ r. IsStore w.values r l.image.head.batches c in
     let C : ℕ → Type 0 = λ n. IsStore w.values w.rows n c in
     subst C l.batches_are (subst B l.rows_are (subst A l.values_are store))
 
 -- a request that touches nothing
-pub quiet-answer : {A : Type 0} → LoadsAreStores → (w : State) (slots : Slots) (q : Request) (result : Result A Status) (a : SiteState) → IsNow a → IsServing w → Holds w.pages a → Answering (desk_at w slots) q result a a
-quiet-answer {A} stores w slots q result a now serving holds = record {
-  safe = start now (λ c left. (refl, inl (rest-store stores w a serving holds c left)));
-  unsaved = λ _ c left. rest-store stores w a serving holds c left;
+pub quiet-answer : {A : Type 0} → LoadsAreStores → (w : State) (slots : Slots) (q : Request) (result : Result A Status) (a : SiteState) → IsNow a → IsServing w → IsClustered w → Holds w.pages a → Answering (desk_at w slots) q result a a
+quiet-answer {A} stores w slots q result a now serving stand holds = record {
+  safe = start now (λ c left. (refl, inl (rest-store stores w a serving stand holds c left)));
+  unsaved = λ _ c left. rest-store stores w a serving stand holds c left;
 }
 
 -- what holds of the lines of a batch holds of the request
@@ -89,8 +112,8 @@ if-ok (Ok x) P Q given each = each x given
 if-ok (Err e) P Q given each = tt
 
 -- the one image of a site that is at rest is the store of the desk
-pub desk-store : LoadsAreStores → (w : State) (slots : Slots) (d : Desk) (b : SiteState) → desk_at w slots ≡ d → IsServing w → Holds w.pages b → (c : List ℕ) → b.may_leave c → IsStoreOf d c
-desk-store stores w slots d b is serving holds c left = let P : Desk → Type 0 = λ x. IsStoreOf x c in subst P is (rest-store stores w b serving holds c left)
+pub desk-store : LoadsAreStores → (w : State) (slots : Slots) (d : Desk) (b : SiteState) → desk_at w slots ≡ d → IsServing w → IsClustered w → Holds w.pages b → (c : List ℕ) → b.may_leave c → IsStoreOf d c
+desk-store stores w slots d b is serving stand holds c left = let P : Desk → Type 0 = λ x. IsStoreOf x c in subst P is (rest-store stores w b serving stand holds c left)
 
 replying-quiet : (d : Desk) (q : Request) (a : SiteState) (s i : List ℕ) → s ≡ a.said → IsStoreOf d i ⊎ IsStoreOf (desk_behind d (answer_on d q)) i → IsReplying d q a s i
 replying-quiet d q a s i is (inl before) = record { n = 0; prefix = is ∙ sym (append-nil a.said); image_is = inl (refl, before) }
@@ -101,10 +124,10 @@ answered-quietly {A} {r} d q a b answering = safe_as answering.safe (λ s i at. 
 
 -- the answer is said
 pub replies : {A E : Type 0} {r : Result A Status} {said : Result Unit E} → LoadsAreStores → (d : Desk) (next : State) (slots : Slots) (q : Request) (text : List ℕ) (a b c : SiteState)
-    → Answering d q r a b → b.said ≡ a.said → IsServing next → Holds next.pages b → desk_at next slots ≡ desk_behind d (answer_on d q) → text ≡ (answer_on d q).text → Speaks text said b c → Safe a c (IsReplying d q a)
-replies {A} {E} {r} {said} stores d next slots q text a b c answering kept serving holds desk is speaks =
+    → Answering d q r a b → b.said ≡ a.said → IsServing next → IsClustered next → Holds next.pages b → desk_at next slots ≡ desk_behind d (answer_on d q) → text ≡ (answer_on d q).text → Speaks text said b c → Safe a c (IsReplying d q a)
+replies {A} {E} {r} {said} stores d next slots q text a b c answering kept serving stand holds desk is speaks =
     after_say (answered-quietly d q a b answering) speaks (λ n i left. record {
       n = n;
       prefix = ap (λ (s : List ℕ). s ++ take n text) kept ∙ ap (λ (t : List ℕ). a.said ++ take n t) is;
-      image_is = inr (desk-store stores next slots (desk_behind d (answer_on d q)) b desk serving holds i left);
+      image_is = inr (desk-store stores next slots (desk_behind d (answer_on d q)) b desk serving stand holds i left);
     })

@@ -9,7 +9,7 @@ use Rattle.vec_record.specs.Held.{Rows}
 use Rattle.site_disk.specs.State.{SiteState, IsNow, Safe}
 use Rattle.site_disk.proofs.Moments.{start}
 use Rattle.site_disk.specs.Causes.{Rose}
-use Rattle.page_gate.specs.Gate.{opening, Opens}
+use Rattle.page_gate.specs.Gate.{opening, Opening, Opens}
 use Rattle.page_gate.specs.Promises.{IsAsWas, IsRefusal}
 use Rattle.page_gate.specs.declared.fault.OpenFault.{OpenFault}
 use Rattle.page_gate.specs.declared.fault.OpenFault.TheVariants.{Blank, Foreign, Damaged, SiteFault, Memory}
@@ -19,8 +19,8 @@ use Rattle.store_image.specs.declared.fault.StoreFault as store
 use Rattle.store_image.specs.declared.fault.StoreFault.TheVariants as store_fault
 use Rattle.store_image.specs.Images.{Image}
 use Rattle.store_image.specs.Loading.{and_then, values_of_head, head_in_pages, params_in_pages, load_of, Fails}
-use Rattle.store_image.specs.Stores.{IsStore, IsSound, SameOpeningsAreAlike, LoadsAreStores, refusal_on, batches_on, verdict, refusal_of}
-use Rattle.warehouse_core.specs.States.{State}
+use Rattle.store_image.specs.Stores.{IsStore, IsSound, AreDueIn, AreDueBy, AreDueOn, SameOpeningsAreAlike, LoadsAreStores, refusal_on, batches_on, verdict, refusal_of}
+use Rattle.warehouse_core.specs.States.{State, LoadsAs}
 use Rattle.session_desk.specs.declared.status.Status.{Status}
 use Rattle.session_desk.specs.declared.status.Status.TheVariants as status
 use Rattle.session_desk.specs.Statuses.{is_fault}
@@ -28,8 +28,8 @@ use Rattle.session_desk.specs.Moments.{IsSaying}
 use Rattle.session_desk.specs.Session.{Answer, Request, SessionState, answers, text_of, accepted_by, acked, rows_after_all, requests_of, whole_requests}
 use Rattle.session_desk.specs.Courses.{Course, course_text, course_by, begun, session, values_on, state_on, accepted}
 use Rattle.session_desk.specs.Headline.{IsStoreAfter, IsMoment, SaysAll, SaysWhole, KeepsAll, IsSettled, IsUntouched, Serves}
-use Rattle.session_desk.specs.Talks.{desk_at, answers_on, talk, IsStoreAt, IsTalk, Concludes, IsKept, IsCutOff, IsEven}
-use Rattle.session_desk.specs.Opened.{is_outside, fault_of, refusal_course, IsLoaded}
+use Rattle.session_desk.specs.Talks.{IsServing, desk_at, answers_on, talk, IsStoreAt, IsTalk, Concludes, IsKept, IsCutOff, IsEven}
+use Rattle.session_desk.specs.Opened.{is_outside, fault_of, refusal_course, IsLoaded, IsStoreAsIs}
 use Rattle.session_desk.proofs.LifeLaws.{acked-none}
 use Rattle.session_desk.proofs.Going.{safe_as, then_safe, then_said}
 
@@ -60,7 +60,7 @@ store-after w watchers c input m image store at =
     let P : List (List Change) → Type 0 = λ l. m ≤ length l in
     record {
       some = subst P batches at.some;
-      sound = record { begins = inr at.store.opens };
+      sound = record { begins = inr at.store.opens; due = at.store.due };
       params = at.store.params ∙ sym store.params;
       records =
           at.store.records
@@ -279,14 +279,36 @@ pub params-fail : (pages : List (List ℕ)) (fault : store.StoreFault) → param
 unfolding params_in_pages load_of
 params-fail pages fault is = fails-by fault (load_of pages) (head-fails (head_in_pages pages) _ fault is)
 
--- the warehouse that was loaded is the store of the content
-pub loaded-store : LoadsAreStores → (c : List ℕ) (pages : List (List ℕ)) (w : State) → opening c ≡ Opens pages → IsLoaded pages w → IsStore w.values w.rows w.batches c
-loaded-store stores c pages w opens loaded =
+-- a content whose pages load opens
+pub loaded-opens : (c : List ℕ) (pages : List (List ℕ)) (w : State) → opening c ≡ Opens pages → IsLoaded pages w → refusal_on c ≡ None
+unfolding refusal_on
+loaded-opens c pages w opens loaded = ap verdict opens ∙ ap refusal_of loaded.loads.loads
+
+-- and where its lines are those that are due, the warehouse that was loaded is its store, and its clusters stand
+pub loaded-store : LoadsAreStores → (c : List ℕ) (pages : List (List ℕ)) (w : State) → opening c ≡ Opens pages → IsLoaded pages w → AreDueOn c → IsStoreAsIs w c
+loaded-store stores c pages w opens loaded lines =
     let l = loaded.loads in
+    let P : Opening → Type 0 = λ o. AreDueBy o in
+    let due : AreDueIn pages = subst P opens lines in
     let A : Values → Type 0 = λ v. IsStore v l.image.records.vectors l.image.head.batches c in
     let B : Rows → Type 0 = λ r. IsStore w.values r l.image.head.batches c in
     let C : ℕ → Type 0 = λ n. IsStore w.values w.rows n c in
-    subst C l.batches_are (subst B l.rows_are (subst A l.values_are (stores c pages l.image opens l.loads)))
+    record {
+      store = subst C l.batches_are (subst B l.rows_are (subst A l.values_are (stores c pages l.image opens l.loads due)));
+      clustered = loaded.clustered.0 due;
+    }
+
+-- it can answer
+pub loaded-serving : (pages : List (List ℕ)) (w : State) → IsLoaded pages w → IsServing w
+loaded-serving pages w loaded =
+    let P : List (List ℕ) → Type 0 = λ p. LoadsAs p w.values w.rows w.batches in
+    let Q : List (List ℕ) → Type 0 = λ p. AreDueIn p in
+    record {
+      stored = loaded.stored;
+      whole = loaded.whole;
+      loads = λ stand. subst P (sym loaded.pages_are) loaded.loads;
+      due = λ stand. subst Q (sym loaded.pages_are) (loaded.clustered.1 stand);
+    }
 
 -- a count that rose before or after
 pub rose-later : (a b c : ℕ) → a ≤ b → Rose b c → Rose a c

@@ -13,7 +13,7 @@ use Rattle.page_gate.specs.Promises.{Holds}
 use Rattle.page_layout.specs.Heads.{Values}
 use Rattle.event_feed.specs.Meanings.{Slots}
 use Rattle.store_image.specs.Stores.{IsStore, LoadsAreStores}
-use Rattle.warehouse_core.specs.States.{State}
+use Rattle.warehouse_core.specs.States.{State, IsClustered}
 use Rattle.session_desk.specs.declared.status.Status.{Status}
 use Rattle.session_desk.specs.declared.status.Status.TheVariants as status
 use Rattle.session_desk.specs.Answers.{input_limit}
@@ -178,64 +178,74 @@ turn-failed tells d next input a b c refused r new left left' q t going is reply
     let replied = at-desk (λ x. Safe b c (IsReplying x q b)) going.desk reply in
     then_safe told.safe (safe_as replied (λ s i m. turn-moment d input a b going.asked (asks new.room (rest_of new left')) q are told.said s i m))
 
--- before the first turn
-pub begins-going : LoadsAreStores → (tells : Bool) (w : State) (slots : Slots) (input : List ℕ) (a : SiteState) → (IsTrue tells → IsNow a) → IsServing w → (IsTrue tells → Holds w.pages a) → IsGoing tells (desk_at w slots) input a false (desk_at w slots) fresh input a
-begins-going stores tells w slots input a now serving holds =
+-- before the first turn nothing was read
+pub begins-reading : (input : List ℕ) → IsRead input [] fresh input
+begins-reading input = record {
+  used = [];
+  front = refl;
+  counts = omega arith;
+  requests = sym (asks_all input);
+  past = refl;
+  whole = inl none_whole;
+  same_source = λ e. absurd (cc e);
+}
+
+pub begins-going : LoadsAreStores → (tells : Bool) (w : State) (slots : Slots) (input : List ℕ) (a : SiteState) → (IsTrue tells → IsNow a) → IsServing w → IsClustered w → (IsTrue tells → Holds w.pages a) → IsGoing tells (desk_at w slots) input a false (desk_at w slots) fresh input a
+begins-going stores tells w slots input a now serving stand holds =
     let d = desk_at w slots in
     let are : requests_of input ≡ [] ++ asks input_limit input = sym (asks_all input) in
     record {
       asked = [];
-      read = record {
-        used = [];
-        front = refl;
-        counts = omega arith;
-        requests = are;
-        past = refl;
-        whole = inl none_whole;
-        same_source = λ e. absurd (cc e);
-      };
+      read = begins-reading input;
       desk = refl;
       refused_is = refl;
       told = λ t. record {
         said = sym (append-nil a.said);
-        safe = start (now t) (λ c left. at-rest d input a [] (asks input_limit input) are a.said c (sym (append-nil a.said)) (rest-store stores w a serving (holds t) c left));
+        safe = start (now t) (λ c left. at-rest d input a [] (asks input_limit input) are a.said c (sym (append-nil a.said)) (rest-store stores w a serving stand (holds t) c left));
       };
     }
 
--- and after each
+-- and after each a request more
+next-asked : (input : List ℕ) (asked : List Request) (r new : Reading) (left left' : List ℕ) (q : Request) → IsRead input asked r left → IsNext q r left new left' → requests_of input ≡ asked ++ (q ∷ asks new.room (rest_of new left'))
+next-asked input asked r new left left' q read is = read.requests ∙ ap (λ (l : List Request). asked ++ l) is.asked
+
+pub reads-on : (input : List ℕ) (asked : List Request) (r new : Reading) (left left' : List ℕ) (q : Request) → IsRead input asked r left → IsNext q r left new left' → HasSource new left' → (r.ended ≡ true → new.ended ≡ true) → IsRead input (asked ++ q ∷ []) new left'
+reads-on input asked r new left left' q read is source ends =
+    record {
+      used = read.used ++ is.used;
+      front = read.front ∙ ap (λ (l : List ℕ). read.used ++ l) is.front ∙ sym (append_assoc read.used is.used (rest_of new left'));
+      counts =
+          let both : length (read.used ++ is.used) ≡ length read.used + length is.used = length-append read.used is.used in
+          let first = read.counts in
+          let second = is.counts in
+          omega (arith, both, first, second);
+      requests = next-asked input asked r new left left' q read is ∙ sym (append_assoc asked (q ∷ []) (asks new.room (rest_of new left')));
+      past = is.past ∙ read.past;
+      whole = both-whole read.whole is.whole;
+      same_source = source;
+    }
+  where
+    both-whole : AreWhole read.used asked ⊎ (r.ended ≡ true) → AreWhole is.used (q ∷ []) ⊎ (new.ended ≡ true) → AreWhole (read.used ++ is.used) (asked ++ q ∷ []) ⊎ (new.ended ≡ true)
+    both-whole (inl first) (inl second) = inl (more_whole first second)
+    both-whole (inl first) (inr ended) = inr ended
+    both-whole (inr ended) second = inr (ends ended)
+
 pub goes-on : (tells : Bool) (d next last : Desk) (input : List ℕ) (a b c : SiteState) (refused one : Bool) (r new : Reading) (left left' : List ℕ) (q : Request)
     → IsGoing tells d input a refused next r left b → IsNext q r left new left' → HasSource new left' → (r.ended ≡ true → new.ended ≡ true) → last ≡ desk_behind next (answer_on next q) → one ≡ (answer_on next q).refused
     → (IsTrue tells → Safe b c (IsReplying next q b) × (c.said ≡ b.said ++ (answer_on next q).text)) → IsGoing tells d input a (refused || one) last new left' c
 goes-on tells d next last input a b c refused one r new left left' q going is source ends desk one-is reply =
     let asked = going.asked in
     let rest = asks new.room (rest_of new left') in
-    let are : requests_of input ≡ asked ++ (q ∷ rest) = going.read.requests ∙ ap (λ (l : List Request). asked ++ l) is.asked in
+    let are : requests_of input ≡ asked ++ (q ∷ rest) = next-asked input asked r new left left' q going.read is in
     record {
       asked = asked ++ q ∷ [];
-      read = record {
-        used = going.read.used ++ is.used;
-        front = going.read.front ∙ ap (λ (l : List ℕ). going.read.used ++ l) is.front ∙ sym (append_assoc going.read.used is.used (rest_of new left'));
-        counts =
-            let both : length (going.read.used ++ is.used) ≡ length going.read.used + length is.used = length-append going.read.used is.used in
-            let first = going.read.counts in
-            let second = is.counts in
-            omega (arith, both, first, second);
-        requests = are ∙ sym (append_assoc asked (q ∷ []) rest);
-        past = is.past ∙ going.read.past;
-        whole = both-whole going.read.whole is.whole;
-        same_source = source;
-      };
+      read = reads-on input asked r new left left' q going.read is source ends;
       desk = desk ∙ ap (λ (x : Desk). desk_behind x (answer_on x q)) going.desk ∙ sym (after-one d asked q);
       refused_is = refused-one d asked q refused one going.refused_is (one-is ∙ ap (λ (x : Desk). (answer_on x q).refused) going.desk);
       told = λ t. turn-told d input a b c asked rest q are (going.told t)
           (at-desk (λ x. Safe b c (IsReplying x q b)) going.desk (reply t).0)
           ((reply t).1 ∙ ap (λ (x : Desk). b.said ++ (answer_on x q).text) going.desk);
     }
-  where
-    both-whole : AreWhole going.read.used going.asked ⊎ (r.ended ≡ true) → AreWhole is.used (q ∷ []) ⊎ (new.ended ≡ true) → AreWhole (going.read.used ++ is.used) (going.asked ++ q ∷ []) ⊎ (new.ended ≡ true)
-    both-whole (inl first) (inl second) = inl (more_whole first second)
-    both-whole (inl first) (inr ended) = inr ended
-    both-whole (inr ended) second = inr (ends ended)
 
 -- where the input has no further request, all of its requests were answered
 all-asked : (input : List ℕ) (asked : List Request) (r : Reading) (left : List ℕ) → IsRead input asked r left → asks r.room (rest_of r left) ≡ [] → requests_of input ≡ asked ++ []
@@ -278,8 +288,8 @@ ends-too-long tells d next input a b c refused r left result t going none past i
 
 -- its moments
 pub too-long-moments : LoadsAreStores → (tells : Bool) (d : Desk) (w : State) (slots : Slots) (input : List ℕ) (a b c : SiteState) (refused : Bool) (r : Reading) (left : List ℕ) → IsTrue tells → IsGoing tells d input a refused (desk_at w slots) r left b
-    → asks r.room (rest_of r left) ≡ [] → is_past r.room (rest_of r left) ≡ true → IsServing w → Holds w.pages b → Safe b c (IsSaying b (codes "session too long\n")) → Safe a c (IsTalk d input a)
-too-long-moments stores tells d w slots input a b c refused r left t going none past serving holds say =
+    → asks r.room (rest_of r left) ≡ [] → is_past r.room (rest_of r left) ≡ true → IsServing w → IsClustered w → Holds w.pages b → Safe b c (IsSaying b (codes "session too long\n")) → Safe a c (IsTalk d input a)
+too-long-moments stores tells d w slots input a b c refused r left t going none past serving stand holds say =
     let asked = going.asked in
     let are = all-asked input asked r left going.read none in
     let over : is_over input ≡ true = sym going.read.past ∙ past in
@@ -291,20 +301,20 @@ too-long-moments stores tells d w slots input a b c refused r left t going none 
     point d input a asked [] are (take n line) (drop n line) (b.said ++ take n line) i (length (accepted_by f))
     (ending ∙ sym (take-append-drop n line))
     (ap (λ (l : List ℕ). l ++ take n line) told.said ∙ append_assoc a.said (text_of f) (take n line))
-    (store-at d input asked [] are i (desk-store stores w slots (desk_after d asked) b going.desk serving holds i left'))
+    (store-at d input asked [] are i (desk-store stores w slots (desk_after d asked) b going.desk serving stand holds i left'))
     (omega arith) (omega arith))
 
 -- one image with all accepted batches, where what was said after b leaves the content alone
 pub all-kept : LoadsAreStores → (tells : Bool) (d : Desk) (w : State) (slots : Slots) (input : List ℕ) (a b : SiteState) (refused : Bool) (r : Reading) (left : List ℕ) → IsGoing tells d input a refused (desk_at w slots) r left b
-    → asks r.room (rest_of r left) ≡ [] → IsServing w → (c : SiteState) → IsNow c → Holds w.pages c → IsKept d input c
-all-kept stores tells d w slots input a b refused r left going none serving c now holds =
+    → asks r.room (rest_of r left) ≡ [] → IsServing w → IsClustered w → (c : SiteState) → IsNow c → Holds w.pages c → IsKept d input c
+all-kept stores tells d w slots input a b refused r left going none serving stand c now holds =
     let asked = going.asked in
     let are = all-asked input asked r left going.read none in
     let given : (talk d input).answers ≡ answers_on d asked = ap (answers_on d) (are ∙ append-nil asked) in
     let P : List Answer → Type 0 = λ l. IsStoreAt d input (length (accepted_by l)) c.content in
     record {
       only = holds.only;
-      store = subst P (sym given) (store-at d input asked [] are c.content (desk-store stores w slots (desk_after d asked) c going.desk serving holds c.content now.read));
+      store = subst P (sym given) (store-at d input asked [] are c.content (desk-store stores w slots (desk_after d asked) c going.desk serving stand holds c.content now.read));
     }
 
 -- every committed batch has its receipt said

@@ -11,7 +11,7 @@ use Rattle.session_desk.specs.Answers.{Due, due}
 
 -- the head of a new store, and its one page behind the gate page
 abbrev pub new_head : Values → HeadValue
-new_head v = record { pages = 2; version = 0; values = v; batches = 0; count = 0; root = 0; height = 0 }
+new_head v = record { pages = 2; version = 1; values = v; batches = 0; count = 0; root = 0; height = 0 }
 
 abbrev pub new_pages : Values → List (List ℕ)
 new_pages v = head_page (new_head v) ∷ []

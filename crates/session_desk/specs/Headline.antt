@@ -4,12 +4,17 @@ use Rattle.site_disk.specs.State.{SiteState, Safe}
 use Rattle.page_gate.specs.Gate.{opening}
 use Rattle.page_gate.specs.Same.{IsOnly}
 use Rattle.event_feed.specs.Meanings.{Slots}
-use Rattle.store_image.specs.Stores.{IsSound, records_on, batches_on, params_on, refusal_on}
+use Rattle.store_image.specs.Stores.{IsSound, AreDueOn, records_on, batches_on, params_on, refusal_on}
 use Rattle.session_desk.specs.declared.status.Status.{Status}
 use Rattle.session_desk.specs.declared.status.Status.TheVariants.{Fine, Refused, SourceFault, Memory, Blank, Broken, TooLong}
 use Rattle.session_desk.specs.Statuses.{is_fault}
 use Rattle.session_desk.specs.Session.{acked, text_of, rows_after_all, whole_requests}
 use Rattle.session_desk.specs.Courses.{session, course_text, values_on, answers_over, accepted}
+
+-- What is assumed of the content at the start: where it opens, each count, anchor and label that it has is the one that is due to its
+-- record. Every sound content has it, and so has every content that doesn't open.
+abbrev pub HasDueLines : List ℕ → Type 0
+HasDueLines c = refusal_on c ≡ None → AreDueOn c
 
 -- an image is a sound store with the same parameters, and the records after the first m batches that the session accepts
 pub record IsStoreAfter (c : List ℕ) (watchers : Slots) (input : List ℕ) (m : ℕ) (image : List ℕ) : Type 0 where

@@ -5,11 +5,11 @@ use Rattle.std.specs.List.{list_any}
 use Rattle.site_disk.specs.State.{SiteState, Safe}
 use Rattle.page_gate.specs.Same.{IsOnly}
 use Rattle.page_layout.specs.Heads.{Values}
-use Rattle.store_image.specs.Stores.{IsStore}
+use Rattle.store_image.specs.Stores.{IsStore, AreDueIn}
 use Rattle.event_feed.specs.declared.feed.WatcherSlots.{WatcherSlots}
 use Rattle.event_feed.specs.Meanings.{Meaning, Slots, meanings}
 use Rattle.warehouse_core.specs.declared.refusal.Refusal.{Refusal}
-use Rattle.warehouse_core.specs.States.{State, LoadsAs}
+use Rattle.warehouse_core.specs.States.{State, IsClustered, LoadsAs}
 use Rattle.warehouse_core.specs.Applying.{is_numbered}
 use Rattle.session_desk.specs.declared.status.Status.{Status}
 use Rattle.session_desk.specs.declared.status.Status.TheVariants as status
@@ -51,11 +51,13 @@ desk_after d (q ∷ more) = desk_after (desk_behind d (answer_on d q)) more
 abbrev pub IsStoreOf : Desk → List ℕ → Type 0
 IsStoreOf d c = IsStore d.values d.state.rows d.state.batches c
 
--- a warehouse that can answer: it has a store, hasn't failed, and its pages load as what it is
+-- a warehouse that can answer: it has a store and hasn't failed, and where its clusters stand for its records, its pages load as
+-- what it is, with the lines that are due
 pub record IsServing (w : State) : Type 0 where
   pub stored : w.stored ≡ true
   pub whole : w.failed ≡ false
-  pub loads : LoadsAs w.pages w.values w.rows w.batches
+  pub loads : IsClustered w → LoadsAs w.pages w.values w.rows w.batches
+  pub due : IsClustered w → AreDueIn w.pages
 
 -- the number and the place of a refusal, or the status of a fault
 abbrev pub IsJudged : Refusal → Result (ℕ × Option ℕ) Status → Type 0

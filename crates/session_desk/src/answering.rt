@@ -5,6 +5,7 @@ ghost use Rattle.plain_dbscan.specs.Texts.{summary_text as text_of_summary};
 ghost use Rattle.event_feed.specs.Meanings.{meanings, slot_at};
 ghost use Rattle.warehouse_core.specs.Batches.{marks_on};
 ghost use Rattle.warehouse_core.specs.Queries.{mark_on, members_of};
+ghost use Rattle.warehouse_core.specs.States.{IsClustered};
 ghost use Rattle.session_desk.specs.Session.{tells, refuses, label_answer, cluster_answer};
 ghost use Rattle.session_desk.specs.Session.{near_answer, watch_answer, drop_answer, ended};
 ghost use Rattle.session_desk.specs.Session.{without_dropped};
@@ -29,7 +30,7 @@ pub fn refuse(number: u32, place: Option<u32>, out: &mut Bytes) -> Result<bool, 
 /// Appends the report.
 pub fn report<M: Metric>(warehouse: &Warehouse<M>, out: &mut Bytes) -> Result<bool, AllocError>
     requires { warehouse.now.failed ≡ false }
-    ensures { IfOk result (λ refused. IsGiven
+    ensures { IsClustered warehouse.now → IfOk result (λ refused. IsGiven
         (tells (text_of_report (marks_on warehouse.now.values warehouse.now.rows))) refused out.old
         out.new) }
 {
@@ -40,7 +41,7 @@ pub fn report<M: Metric>(warehouse: &Warehouse<M>, out: &mut Bytes) -> Result<bo
 /// Appends the counts of all records.
 pub fn summary<M: Metric>(warehouse: &Warehouse<M>, out: &mut Bytes) -> Result<bool, AllocError>
     requires { warehouse.now.failed ≡ false }
-    ensures { IfOk result (λ refused. IsGiven
+    ensures { IsClustered warehouse.now → IfOk result (λ refused. IsGiven
         (tells (text_of_summary (marks_on warehouse.now.values warehouse.now.rows))) refused out.old
         out.new) }
 {
@@ -55,7 +56,7 @@ pub fn label<M: Metric>(
     out: &mut Bytes,
 ) -> Result<bool, AllocError>
     requires { warehouse.now.failed ≡ false }
-    ensures { IfOk result (λ refused. IsGiven
+    ensures { IsClustered warehouse.now → IfOk result (λ refused. IsGiven
         (label_answer number (mark_on warehouse.now.values warehouse.now.rows number)) refused
         out.old out.new) }
 {
@@ -75,7 +76,7 @@ pub fn cluster<M: Metric>(
     out: &mut Bytes,
 ) -> Result<bool, AllocError>
     requires { warehouse.now.failed ≡ false }
-    ensures { IfOk result (λ refused. IsGiven
+    ensures { IsClustered warehouse.now → IfOk result (λ refused. IsGiven
         (cluster_answer label
         (members_of label (marks_on warehouse.now.values warehouse.now.rows))) refused out.old
         out.new) }

@@ -25,7 +25,7 @@ fn make_first_page(alloc: Global, params: &Params) -> Result<Page, AllocError>
     let mut page = Page::zeros(alloc)?;
     let head = Head {
         pages: 2,
-        version: 0,
+        version: 1,
         params: *params,
         batches: 0,
         count: 0,

@@ -4,6 +4,7 @@ ghost use Rattle.std.specs.Prelude.{IsTrue, codes, if◌then◌else◌};
 ghost use Rattle.site_disk.specs.Causes.{Rose};
 ghost use Rattle.site_disk.specs.State.{Safe, Joins};
 ghost use Rattle.page_gate.specs.Promises.{Holds};
+ghost use Rattle.warehouse_core.specs.States.{IsClustered};
 ghost use Rattle.session_desk.specs.Statuses.{is_fault};
 ghost use Rattle.session_desk.specs.Reading.{IsTaken};
 ghost use Rattle.session_desk.specs.Moments.{IsSaying, LeavesAlone};
@@ -68,20 +69,25 @@ fn converse<M: Metric, W: Watcher, S: Source, T: Site, L: Ledger>(
 ) -> Status
     requires serving { IsServing session.old.warehouse }
     requires ready { IsTrue T.tells → Holds session.old.warehouse.pages (T.state site.old) }
-    ensures answers { IsTrue S.tells → IsTrue T.tells → is_fault result ≡ false → Concludes
+    ensures answers { IsTrue S.tells → IsTrue T.tells → IsClustered session.old.warehouse
+        → is_fault result ≡ false → Concludes
         (desk_of W.says_after session.old.warehouse session.old.feed) (S.left source.old) result
         (T.state site.old) (T.state site.new) }
-    ensures whole { IsTrue S.tells → IsTrue T.tells → result ≡ Status.SourceFault → IsCutOff
+    ensures whole { IsTrue S.tells → IsTrue T.tells → IsClustered session.old.warehouse
+        → result ≡ Status.SourceFault → IsCutOff
         (desk_of W.says_after session.old.warehouse session.old.feed) (S.left source.old)
         (S.left source.new) (T.state site.old) (T.state site.new) }
-    ensures moments { IsTrue S.tells → IsTrue T.tells → Safe (T.state site.old) (T.state site.new)
+    ensures moments { IsTrue S.tells → IsTrue T.tells → IsClustered session.old.warehouse
+        → Safe (T.state site.old) (T.state site.new)
         (IsTalk (desk_of W.says_after session.old.warehouse session.old.feed) (S.left source.old)
         (T.state site.old)) }
-    ensures end { IsTrue S.tells → IsTrue T.tells → is_fault result ≡ false → IsKept
-        (desk_of W.says_after session.old.warehouse session.old.feed) (S.left source.old) (T.state site.new) }
-    ensures settled { IsTrue S.tells → IsTrue T.tells → (result ≡ Status.SourceFault)
-        ⊎ (result ≡ Status.Memory) → IsEven (desk_of W.says_after session.old.warehouse session.old.feed)
-        (S.left source.old) (T.state site.old) (T.state site.new) }
+    ensures end { IsTrue S.tells → IsTrue T.tells → IsClustered session.old.warehouse
+        → is_fault result ≡ false → IsKept
+        (desk_of W.says_after session.old.warehouse session.old.feed) (S.left source.old)
+        (T.state site.new) }
+    ensures settled { IsTrue S.tells → IsTrue T.tells → IsClustered session.old.warehouse
+        → (result ≡ Status.SourceFault) ⊎ (result ≡ Status.Memory) → IsEven
+        (desk_of W.says_after session.old.warehouse session.old.feed) (S.left source.old) (T.state site.old) (T.state site.new) }
     ensures status { (result ≡ Status.Fine) ⊎ (result ≡ Status.Refused) ⊎ (result ≡ Status.TooLong)
         ⊎ (is_fault result ≡ true) }
     ensures site { result ≡ Status.SiteFault → Rose (T.faults site.old) (T.faults site.new) }
@@ -124,20 +130,25 @@ pub fn hold_session<M: Metric, W: Watcher, S: Source, T: Site, L: Ledger>(
 ) -> Status
     requires serving { IsServing session.warehouse }
     requires ready { IsTrue T.tells → Holds session.warehouse.pages (T.state site.old) }
-    ensures answers { IsTrue S.tells → IsTrue T.tells → is_fault result ≡ false → Concludes
+    ensures answers { IsTrue S.tells → IsTrue T.tells → IsClustered session.warehouse
+        → is_fault result ≡ false → Concludes
         (desk_of W.says_after session.warehouse session.feed) (S.left source.old) result
         (T.state site.old) (T.state site.new) }
-    ensures whole { IsTrue S.tells → IsTrue T.tells → result ≡ Status.SourceFault → IsCutOff
+    ensures whole { IsTrue S.tells → IsTrue T.tells → IsClustered session.warehouse
+        → result ≡ Status.SourceFault → IsCutOff
         (desk_of W.says_after session.warehouse session.feed) (S.left source.old)
         (S.left source.new) (T.state site.old) (T.state site.new) }
-    ensures moments { IsTrue S.tells → IsTrue T.tells → Safe (T.state site.old) (T.state site.new)
+    ensures moments { IsTrue S.tells → IsTrue T.tells → IsClustered session.warehouse
+        → Safe (T.state site.old) (T.state site.new)
         (IsTalk (desk_of W.says_after session.warehouse session.feed) (S.left source.old)
         (T.state site.old)) }
-    ensures end { IsTrue S.tells → IsTrue T.tells → is_fault result ≡ false → IsKept
-        (desk_of W.says_after session.warehouse session.feed) (S.left source.old) (T.state site.new) }
-    ensures settled { IsTrue S.tells → IsTrue T.tells → (result ≡ Status.SourceFault)
-        ⊎ (result ≡ Status.Memory) → IsEven (desk_of W.says_after session.warehouse session.feed)
-        (S.left source.old) (T.state site.old) (T.state site.new) }
+    ensures end { IsTrue S.tells → IsTrue T.tells → IsClustered session.warehouse
+        → is_fault result ≡ false → IsKept
+        (desk_of W.says_after session.warehouse session.feed) (S.left source.old)
+        (T.state site.new) }
+    ensures settled { IsTrue S.tells → IsTrue T.tells → IsClustered session.warehouse
+        → (result ≡ Status.SourceFault) ⊎ (result ≡ Status.Memory) → IsEven
+        (desk_of W.says_after session.warehouse session.feed) (S.left source.old) (T.state site.old) (T.state site.new) }
     ensures status { (result ≡ Status.Fine) ⊎ (result ≡ Status.Refused) ⊎ (result ≡ Status.TooLong)
         ⊎ (is_fault result ≡ true) }
     ensures site { result ≡ Status.SiteFault → Rose (T.faults site.old) (T.faults site.new) }

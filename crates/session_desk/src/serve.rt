@@ -7,10 +7,11 @@ ghost use Rattle.page_gate.specs.Promises.{Holds, HasFault};
 ghost use Rattle.page_layout.specs.Heads.{Values};
 ghost use Rattle.store_image.specs.Loading.{load_of, Fails};
 ghost use Rattle.event_feed.specs.Meanings.{meanings, filled};
+ghost use Rattle.warehouse_core.specs.States.{IsClustered};
 ghost use Rattle.session_desk.specs.Moments.{IsSaying};
 ghost use Rattle.session_desk.specs.Statuses.{is_fault};
 ghost use Rattle.session_desk.specs.Reading.{IsTaken};
-ghost use Rattle.session_desk.specs.Headline.{Serves, IsComplete, LeavesUnopened};
+ghost use Rattle.session_desk.specs.Headline.{Serves, IsComplete, LeavesUnopened, HasDueLines};
 ghost use Rattle.session_desk.specs.Talks.{IsServing, IsTalk, Concludes, IsCutOff, IsKept, IsEven};
 ghost use Rattle.session_desk.specs.Talks.{desk_of};
 ghost use Rattle.session_desk.specs.Opened.{state_of, is_outside, fault_of as fault_said};
@@ -147,20 +148,24 @@ fn converse_by_metric<W: Watcher, S: Source, T: Site, L: Ledger>(
 ) -> Status
     requires serving { IsServing (state_of session.warehouse) }
     requires ready { IsTrue T.tells → Holds (state_of session.warehouse).pages (T.state site.old) }
-    ensures answers { IsTrue S.tells → IsTrue T.tells → is_fault result ≡ false → Concludes
+    ensures answers { IsTrue S.tells → IsTrue T.tells → IsClustered (state_of session.warehouse)
+        → is_fault result ≡ false → Concludes
         (desk_of W.says_after (state_of session.warehouse) session.feed) (S.left source.old) result
         (T.state site.old) (T.state site.new) }
-    ensures whole { IsTrue S.tells → IsTrue T.tells → result ≡ Status.SourceFault → IsCutOff
+    ensures whole { IsTrue S.tells → IsTrue T.tells → IsClustered (state_of session.warehouse)
+        → result ≡ Status.SourceFault → IsCutOff
         (desk_of W.says_after (state_of session.warehouse) session.feed) (S.left source.old)
         (S.left source.new) (T.state site.old) (T.state site.new) }
-    ensures moments { IsTrue S.tells → IsTrue T.tells → Safe (T.state site.old) (T.state site.new)
+    ensures moments { IsTrue S.tells → IsTrue T.tells → IsClustered (state_of session.warehouse)
+        → Safe (T.state site.old) (T.state site.new)
         (IsTalk (desk_of W.says_after (state_of session.warehouse) session.feed) (S.left source.old)
         (T.state site.old)) }
-    ensures end { IsTrue S.tells → IsTrue T.tells → is_fault result ≡ false → IsKept
+    ensures end { IsTrue S.tells → IsTrue T.tells → IsClustered (state_of session.warehouse)
+        → is_fault result ≡ false → IsKept
         (desk_of W.says_after (state_of session.warehouse) session.feed) (S.left source.old)
         (T.state site.new) }
-    ensures settled { IsTrue S.tells → IsTrue T.tells → (result ≡ Status.SourceFault)
-        ⊎ (result ≡ Status.Memory) → IsEven
+    ensures settled { IsTrue S.tells → IsTrue T.tells → IsClustered (state_of session.warehouse)
+        → (result ≡ Status.SourceFault) ⊎ (result ≡ Status.Memory) → IsEven
         (desk_of W.says_after (state_of session.warehouse) session.feed) (S.left source.old)
         (T.state site.old) (T.state site.new) }
     ensures status { (result ≡ Status.Fine) ⊎ (result ≡ Status.Refused) ⊎ (result ≡ Status.TooLong)
@@ -219,10 +224,11 @@ fn serve_slots<W: Watcher, S: Source, T: Site, L: Ledger>(
     site: &mut T,
     steps: &mut Steps<L>,
 ) -> Status
-    ensures serves { IsTrue S.tells → IsTrue T.tells → Serves
+    ensures serves { IsTrue S.tells → IsTrue T.tells → HasDueLines (T.state site.old).content
+        → Serves
         (meanings W.says_after feed.slots.items) (S.left source.old) (S.left source.new) result
         (T.state site.old) (T.state site.new) }
-    ensures complete { IsTrue S.tells → IsTrue T.tells
+    ensures complete { IsTrue S.tells → IsTrue T.tells → HasDueLines (T.state site.old).content
         → (Rose (S.faults source.old) (S.faults source.new) → ⊥)
         → (Rose (T.faults site.old) (T.faults site.new) → ⊥) → IsComplete
         (meanings W.says_after feed.slots.items) (S.left source.old) result (T.state site.old) }
@@ -265,10 +271,11 @@ pub fn serve<S: Source, T: Site, L: Ledger>(
     watchers: Vec<Box<dyn Watcher>>,
     steps: &mut Steps<L>,
 ) -> Status
-    ensures serves { IsTrue S.tells → IsTrue T.tells → Serves
+    ensures serves { IsTrue S.tells → IsTrue T.tells → HasDueLines (T.state site.old).content
+        → Serves
         (filled ⟦<Box<dyn Watcher> as Watcher>⟧.says_after watchers.items) (S.left source.old)
         (S.left source.new) result (T.state site.old) (T.state site.new) }
-    ensures complete { IsTrue S.tells → IsTrue T.tells
+    ensures complete { IsTrue S.tells → IsTrue T.tells → HasDueLines (T.state site.old).content
         → (Rose (S.faults source.old) (S.faults source.new) → ⊥)
         → (Rose (T.faults site.old) (T.faults site.new) → ⊥) → IsComplete
         (filled ⟦<Box<dyn Watcher> as Watcher>⟧.says_after watchers.items) (S.left source.old)

@@ -4,6 +4,7 @@ ghost use Rattle.std.specs.Prelude.{IsTrue, IfOk, IfErr, OnOk, length};
 ghost use Rattle.site_disk.specs.Causes.{Rose};
 ghost use Rattle.site_disk.specs.State.{Safe, Joins};
 ghost use Rattle.page_gate.specs.Promises.{Holds};
+ghost use Rattle.warehouse_core.specs.States.{IsClustered};
 ghost use Rattle.session_desk.specs.Session.{Request};
 ghost use Rattle.session_desk.specs.Asking.{IsAsked};
 ghost use Rattle.session_desk.specs.Talks.{IsServing, IsJudged, IsAnswered, Answering, desk_of};
@@ -54,7 +55,7 @@ impl<M: Metric, W: Watcher> Session<M, W> {
         steps: &mut Steps<L>,
     ) -> Result<bool, AllocError>
         requires { IsServing self.old.warehouse }
-        ensures answered { IfOk result (λ refused. IsAnswered
+        ensures answered { IsClustered self.old.warehouse → IfOk result (λ refused. IsAnswered
             (desk_of W.says_after self.old.warehouse self.old.feed) (Request.Ask line) refused
             (desk_of W.says_after self.new.warehouse self.new.feed) out.old out.new) }
         ensures warehouse { self.new.warehouse ≡ self.old.warehouse }
@@ -85,14 +86,18 @@ impl<M: Metric, W: Watcher> Session<M, W> {
         requires body { length body.now ≤ 67_108_864 }
         requires ready { IsTrue T.tells → Holds self.old.warehouse.pages (T.state site.old) }
         ensures serving { OnOk result (IsServing self.new.warehouse) }
+        ensures clustered { IsClustered self.old.warehouse
+            → OnOk result (IsClustered self.new.warehouse) }
         ensures ready { IsTrue T.tells
             → OnOk result (Holds self.new.warehouse.pages (T.state site.new)) }
-        ensures answered { (lines : List (List ℕ)) → IsAsked (Asked.Batch body.now)
-            (Request.Batch lines) → IfOk result (λ refused. IsAnswered
+        ensures answered { IsClustered self.old.warehouse → (lines : List (List ℕ))
+            → IsAsked (Asked.Batch body.now) (Request.Batch lines)
+            → IfOk result (λ refused. IsAnswered
             (desk_of W.says_after self.old.warehouse self.old.feed) (Request.Batch lines) refused
             (desk_of W.says_after self.new.warehouse self.new.feed) out.old out.new) }
-        ensures moments { IsTrue T.tells → (lines : List (List ℕ)) → IsAsked (Asked.Batch body.now)
-            (Request.Batch lines) → Answering
+        ensures moments { IsTrue T.tells → IsClustered self.old.warehouse
+            → (lines : List (List ℕ)) → IsAsked (Asked.Batch body.now) (Request.Batch lines)
+            → Answering
             (desk_of W.says_after self.old.warehouse self.old.feed) (Request.Batch lines) result
             (T.state site.old) (T.state site.new) }
         ensures joins { IsTrue T.tells → Joins (T.state site.old) (T.state site.new) }
@@ -124,12 +129,16 @@ impl<M: Metric, W: Watcher> Session<M, W> {
         requires body { (body : List ℕ) → asked ≡ Asked.Batch body → length body ≤ 67_108_864 }
         requires ready { IsTrue T.tells → Holds self.old.warehouse.pages (T.state site.old) }
         ensures serving { OnOk result (IsServing self.new.warehouse) }
+        ensures clustered { IsClustered self.old.warehouse
+            → OnOk result (IsClustered self.new.warehouse) }
         ensures ready { IsTrue T.tells
             → OnOk result (Holds self.new.warehouse.pages (T.state site.new)) }
-        ensures answered { (q : Request) → IsAsked asked q → IfOk result (λ refused. IsAnswered
+        ensures answered { IsClustered self.old.warehouse → (q : Request) → IsAsked asked q
+            → IfOk result (λ refused. IsAnswered
             (desk_of W.says_after self.old.warehouse self.old.feed) q refused
             (desk_of W.says_after self.new.warehouse self.new.feed) out.old out.new) }
-        ensures moments { IsTrue T.tells → (q : Request) → IsAsked asked q → Answering
+        ensures moments { IsTrue T.tells → IsClustered self.old.warehouse → (q : Request)
+            → IsAsked asked q → Answering
             (desk_of W.says_after self.old.warehouse self.old.feed) q result (T.state site.old)
             (T.state site.new) }
         ensures joins { IsTrue T.tells → Joins (T.state site.old) (T.state site.new) }
@@ -161,22 +170,25 @@ impl<M: Metric, W: Watcher> Session<M, W> {
         requires body { (body : List ℕ) → asked ≡ Asked.Batch body → length body ≤ 67_108_864 }
         requires ready { IsTrue T.tells → Holds self.old.warehouse.pages (T.state site.old) }
         ensures serving { OnOk result (IsServing self.new.warehouse) }
+        ensures clustered { IsClustered self.old.warehouse
+            → OnOk result (IsClustered self.new.warehouse) }
         ensures ready { IsTrue T.tells
             → OnOk result (Holds self.new.warehouse.pages (T.state site.new)) }
-        ensures desk { (q : Request) → IsAsked asked q
+        ensures desk { IsClustered self.old.warehouse → (q : Request) → IsAsked asked q
             → let old = desk_of W.says_after self.old.warehouse self.old.feed in OnOk result
             (desk_of W.says_after self.new.warehouse self.new.feed
             ≡ desk_behind old (answer_on old q)) }
-        ensures refused { (q : Request) → IsAsked asked q → IfOk result (λ refused. refused
+        ensures refused { IsClustered self.old.warehouse → (q : Request) → IsAsked asked q
+            → IfOk result (λ refused. refused
             ≡ (answer_on (desk_of W.says_after self.old.warehouse self.old.feed) q).refused) }
-        ensures said { IsTrue T.tells → (q : Request) → IsAsked asked q → OnOk result
-            ((T.state site.new).said ≡ (T.state site.old).said
+        ensures said { IsTrue T.tells → IsClustered self.old.warehouse → (q : Request)
+            → IsAsked asked q → OnOk result ((T.state site.new).said ≡ (T.state site.old).said
             ++ (answer_on (desk_of W.says_after self.old.warehouse self.old.feed) q).text) }
-        ensures moments { IsTrue T.tells → (q : Request) → IsAsked asked q → Safe (T.state site.old)
-            (T.state site.new) (IsReplying (desk_of W.says_after self.old.warehouse self.old.feed) q
+        ensures moments { IsTrue T.tells → IsClustered self.old.warehouse → (q : Request)
+            → IsAsked asked q → Safe (T.state site.old) (T.state site.new) (IsReplying (desk_of W.says_after self.old.warehouse self.old.feed) q
             (T.state site.old)) }
-        ensures unsaved { IsTrue T.tells → (q : Request) → IsAsked asked q
-            → result ≡ Err Status.Memory → (c : List ℕ) → (T.state site.new).may_leave c
+        ensures unsaved { IsTrue T.tells → IsClustered self.old.warehouse → (q : Request)
+            → IsAsked asked q → result ≡ Err Status.Memory → (c : List ℕ) → (T.state site.new).may_leave c
             → IsStoreOf (desk_of W.says_after self.old.warehouse self.old.feed) c }
         ensures unsaid { IsTrue T.tells → result ≡ Err Status.Memory → (T.state site.new).said
             ≡ (T.state site.old).said }

@@ -15,7 +15,7 @@ ghost use Rattle.session_desk.specs.Trial.{trial_text, trial_work};
 ghost use Rattle.session_desk.specs.Reading.{IsTaken};
 ghost use Rattle.session_desk.specs.Answers.{usage_text, answer_of};
 ghost use Rattle.session_desk.specs.Births.{birth_due, IsBirthMoment, IsBorn};
-ghost use Rattle.session_desk.specs.Headline.{Serves, IsComplete, LeavesUnopened};
+ghost use Rattle.session_desk.specs.Headline.{Serves, IsComplete, LeavesUnopened, HasDueLines};
 
 use crate::birth::init;
 use crate::once::run_once;
@@ -48,18 +48,21 @@ pub fn run<S: Source, T: Site, L: Ledger>(
     watchers: Vec<Box<dyn Watcher>>,
     steps: &mut Steps<L>,
 ) -> Status
-    // `serve`, the headline: answers, crash and end. Completeness: where no count of faults rose,
-    // the status is the session's, or memory was wanting.
+    // `serve`, the headline: answers, crash and end, over a content that doesn't open or whose lines
+    // are those that are due. Completeness: where no count of faults rose, the status is the
+    // session's, or memory was wanting.
     ensures serves { IsTrue S.tells → IsTrue T.tells
         → command_of (map string_bytes words.now) ≡ Some Serve
-        → Serves (filled ⟦<Box<dyn Watcher> as Watcher>⟧.says_after watchers.items) (S.left source.old) (S.left source.new) result
-        (T.state site.old) (T.state site.new) }
+        → HasDueLines (T.state site.old).content
+        → Serves (filled ⟦<Box<dyn Watcher> as Watcher>⟧.says_after watchers.items)
+        (S.left source.old) (S.left source.new) result (T.state site.old) (T.state site.new) }
     ensures complete { IsTrue S.tells → IsTrue T.tells
         → command_of (map string_bytes words.now) ≡ Some Serve
+        → HasDueLines (T.state site.old).content
         → (Rose (S.faults source.old) (S.faults source.new) → ⊥)
         → (Rose (T.faults site.old) (T.faults site.new) → ⊥)
-        → IsComplete (filled ⟦<Box<dyn Watcher> as Watcher>⟧.says_after watchers.items) (S.left source.old) result
-        (T.state site.old) }
+        → IsComplete (filled ⟦<Box<dyn Watcher> as Watcher>⟧.says_after watchers.items)
+        (S.left source.old) result (T.state site.old) }
     ensures unopened { IsTrue T.tells → command_of (map string_bytes words.now) ≡ Some Serve
         → LeavesUnopened result (T.state site.old) (T.state site.new) }
     ensures ended { IsTrue S.tells → command_of (map string_bytes words.now) ≡ Some Serve

@@ -5,7 +5,7 @@ use Rattle.page_gate.specs.Promises.{Holds}
 use Rattle.page_gate.specs.declared.fault.OpenFault.{OpenFault}
 use Rattle.session_desk.specs.declared.serve.AnyWarehouse.{AnyWarehouse}
 use Rattle.session_desk.specs.Opened.{state_of, Loads}
-use Rattle.session_desk.proofs.Serving.{gate-verdict, load-verdict, loaded-store}
+use Rattle.session_desk.proofs.Serving.{gate-verdict, load-verdict, loaded-opens, loaded-store, loaded-serving}
 use Rattle.session_desk.proofs.serve.begin.Goals as goal
 
 pub returns-in_err-pages-clause-told : goal.returns-in_err-pages-clause-told
@@ -15,7 +15,7 @@ returns-in_err-pages-clause-told g c = λ t.
     let a = g.T.Site.state c.args.site.now in
     let P : Result AnyWarehouse OpenFault → Type 0 = λ r. Loads r a (g.T.Site.state c.open_pages.new.site) in
     let is : c.from_residual.result ≡ Err c.in_err-pages.field-0.0 = p.1 ∙ ap Err p.2 in
-    subst P (sym is) (record { safe = told.safe; said = told.said; store = λ inside. gate-verdict a.content c.in_err-pages.field-0.0 told.list inside; holds = λ ok i left. ap opening ((told.rests ok).only i left) ∙ (told.rests ok).opens })
+    subst P (sym is) (record { safe = told.safe; said = told.said; opens = tt; store = λ inside. gate-verdict a.content c.in_err-pages.field-0.0 told.list inside; holds = λ ok i left. ap opening ((told.rests ok).only i left) ∙ (told.rests ok).opens })
 
 pub returns-in-Ok-clause-told : goal.returns-in-Ok-clause-told
 returns-in-Ok-clause-told g c = λ t.
@@ -27,6 +27,7 @@ returns-in-Ok-clause-told g c = λ t.
     record {
       safe = told.safe;
       said = told.said;
+      opens = loaded-opens a.content c.in_ok-pages.pages.list w told.list c.in-Ok.ensures.loaded;
       store = loaded-store c.loads_are_stores.ensures a.content c.in_ok-pages.pages.list w told.list c.in-Ok.ensures.loaded;
       holds = subst P (sym c.in-Ok.ensures.loaded.pages_are) told.holds;
     }
@@ -40,6 +41,10 @@ returns-in-Err-clause-told g c = λ t.
     subst P (sym c.fault_of.ensures) (record {
       safe = told.safe;
       said = told.said;
+      opens = tt;
       store = λ inside. load-verdict a.content c.in_ok-pages.pages.list c.in-Err.fault told.list c.in-Err.ensures.loaded inside;
       holds = λ inside i left. ap opening (told.holds.only i left) ∙ told.holds.list ∙ sym told.list;
     })
+
+pub returns-in-Ok-clause-serving : goal.returns-in-Ok-clause-serving
+returns-in-Ok-clause-serving g c = loaded-serving c.in_ok-pages.pages.list (state_of c.in-Ok.warehouse) c.in-Ok.ensures.loaded

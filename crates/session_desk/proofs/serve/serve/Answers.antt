@@ -6,17 +6,17 @@ use Rattle.session_desk.proofs.Serving.{serves-nothing, untouched-still}
 use Rattle.session_desk.proofs.serve.serve.Goals as goal
 
 pub returns-in-Ok-clause-serves : goal.returns-in-Ok-clause-serves
-returns-in-Ok-clause-serves g c = λ s t.
+returns-in-Ok-clause-serves g c = λ s t due.
     let P : Slots → Type 0 = λ x. Serves x (g.S.Source.left c.args.source.now) (g.S.Source.left c.serve_slots.new.source) c.serve_slots.result (g.T.Site.state c.args.site.now) (g.T.Site.state c.serve_slots.new.site) in
-    subst P c.in-Ok.ensures (c.serve_slots.ensures.serves s t)
+    subst P c.in-Ok.ensures (c.serve_slots.ensures.serves s t due)
 
 pub returns-in-Ok-clause-complete : goal.returns-in-Ok-clause-complete
-returns-in-Ok-clause-complete g c = λ s t no_source no_site.
+returns-in-Ok-clause-complete g c = λ s t due no_source no_site.
     let P : Slots → Type 0 = λ x. IsComplete x (g.S.Source.left c.args.source.now) c.serve_slots.result (g.T.Site.state c.args.site.now) in
-    subst P c.in-Ok.ensures (c.serve_slots.ensures.complete s t no_source no_site)
+    subst P c.in-Ok.ensures (c.serve_slots.ensures.complete s t due no_source no_site)
 
 pub returns-in-Err-clause-serves : goal.returns-in-Err-clause-serves
-returns-in-Err-clause-serves g c = λ s t. serves-nothing c.same_openings_are_alike.ensures _ _ _ (g.T.Site.state c.args.site.now) (g.met.T.Site.is_now c.args.site.now t)
+returns-in-Err-clause-serves g c = λ s t due. serves-nothing c.same_openings_are_alike.ensures _ _ _ (g.T.Site.state c.args.site.now) (g.met.T.Site.is_now c.args.site.now t)
 
 pub returns-in-Err-clause-unopened : goal.returns-in-Err-clause-unopened
 returns-in-Err-clause-unopened g c = λ t.

@@ -10,8 +10,10 @@ use Rattle.session_desk.proofs.Serving.{opening-moments, serves-moments, serves-
 use Rattle.session_desk.proofs.serve.serve_slots.Goals as goal
 
 pub returns-in-Ok-clause-serves : goal.returns-in-Ok-clause-serves
-returns-in-Ok-clause-serves g c = λ s t.
+returns-in-Ok-clause-serves g c = λ s t due.
     let told = c.in-Ok.ensures.told t in
+    let as_is = told.store (due told.opens) in
+    let stand = as_is.clustered in
     let talked = c.converse_by_metric.ensures in
     let w = state_of c.in-Ok.warehouse in
     let start = g.T.Site.state c.args.site.now in
@@ -20,38 +22,38 @@ returns-in-Ok-clause-serves g c = λ s t.
     let input = g.S.Source.left c.args.source.now in
     record {
       answers = λ fine.
-          serves-all w (meanings g.W.Watcher.says_after c.args.feed.slots.items) start opened end input c.converse_by_metric.result told.store told.said (talked.answers s t fine);
+          serves-all w (meanings g.W.Watcher.says_after c.args.feed.slots.items) start opened end input c.converse_by_metric.result as_is.store told.said (talked.answers s t stand fine);
       whole = λ fault.
-          serves-whole w (meanings g.W.Watcher.says_after c.args.feed.slots.items) start opened end input (g.S.Source.left c.converse_by_metric.new.source) told.store told.said
-          (talked.whole s t fault);
+          serves-whole w (meanings g.W.Watcher.says_after c.args.feed.slots.items) start opened end input (g.S.Source.left c.converse_by_metric.new.source) as_is.store told.said
+          (talked.whole s t stand fault);
       crash =
-          serves-moments c.same_openings_are_alike.ensures w (meanings g.W.Watcher.says_after c.args.feed.slots.items) start opened end input told.store told.safe told.said
-          (talked.moments s t);
+          serves-moments c.same_openings_are_alike.ensures w (meanings g.W.Watcher.says_after c.args.feed.slots.items) start opened end input as_is.store told.safe told.said
+          (talked.moments s t stand);
       end = λ ended.
-          serves-kept w (meanings g.W.Watcher.says_after c.args.feed.slots.items) start opened end input told.store (talked.end s t (no-fault c.converse_by_metric.result ended));
+          serves-kept w (meanings g.W.Watcher.says_after c.args.feed.slots.items) start opened end input as_is.store (talked.end s t stand (no-fault c.converse_by_metric.result ended));
       settled = λ sound fault.
-          serves-settled w (meanings g.W.Watcher.says_after c.args.feed.slots.items) start opened end input told.store told.said (talked.settled s t fault);
+          serves-settled w (meanings g.W.Watcher.says_after c.args.feed.slots.items) start opened end input as_is.store told.said (talked.settled s t stand fault);
     }
 
 pub returns-in-Ok-clause-complete : goal.returns-in-Ok-clause-complete
-returns-in-Ok-clause-complete g c = λ s t no_source no_site.
+returns-in-Ok-clause-complete g c = λ s t due no_source no_site.
     let start = g.T.Site.faults c.args.site.now in
     let opened = g.T.Site.faults c.begin.new.site in
     let end = g.T.Site.faults c.converse_by_metric.new.site in
     completes c.converse_by_metric.result (session (g.T.Site.state c.args.site.now).content (meanings g.W.Watcher.says_after c.args.feed.slots.items) (g.S.Source.left c.args.source.now)).status
     (Rose (g.S.Source.faults c.args.source.now) (g.S.Source.faults c.converse_by_metric.new.source)) (Rose start end)
-    (λ fine. ((returns-in-Ok-clause-serves g c s t).answers fine).status)
+    (λ fine. ((returns-in-Ok-clause-serves g c s t due).answers fine).status)
     (λ site. rose-later start opened end c.begin.ensures.cause.later (c.converse_by_metric.ensures.site site))
     c.converse_by_metric.ensures.source no_source no_site
 
 pub returns-in-Ok-clause-unopened : goal.returns-in-Ok-clause-unopened
 returns-in-Ok-clause-unopened g c = λ t. record {
-  untouched = λ shut. absurd (shut (c.in-Ok.ensures.told t).store.opens);
+  untouched = λ shut. absurd (shut (c.in-Ok.ensures.told t).opens);
   unbegun = λ broken. never-unopened c.converse_by_metric.result c.converse_by_metric.ensures.status broken;
 }
 
 pub returns-in-Err-clause-serves : goal.returns-in-Err-clause-serves
-returns-in-Err-clause-serves g c = λ s t.
+returns-in-Err-clause-serves g c = λ s t due.
     let told = c.in-Err.ensures.told t in
     let said = c.say_fault.ensures in
     let alike = c.same_openings_are_alike.ensures in
@@ -82,13 +84,13 @@ returns-in-Err-clause-serves g c = λ s t.
     }
 
 pub returns-in-Err-clause-complete : goal.returns-in-Err-clause-complete
-returns-in-Err-clause-complete g c = λ s t no_source no_site.
+returns-in-Err-clause-complete g c = λ s t due no_source no_site.
     let start = g.T.Site.faults c.args.site.now in
     let opened = g.T.Site.faults c.begin.new.site in
     let end = g.T.Site.faults c.say_fault.new.site in
     completes c.say_fault.result (session (g.T.Site.state c.args.site.now).content (meanings g.W.Watcher.says_after c.args.feed.slots.items) (g.S.Source.left c.args.source.now)).status
     (Rose (g.S.Source.faults c.args.source.now) (g.S.Source.faults c.args.source.now)) (Rose start end)
-    (λ fine. ((returns-in-Err-clause-serves g c s t).answers fine).status)
+    (λ fine. ((returns-in-Err-clause-serves g c s t due).answers fine).status)
     (λ site. ⊎_elim
     (λ fault. rose-before start opened end (c.in-Err.ensures.cause.failed fault) c.say_fault.ensures.later)
     (λ rose. rose-later start opened end c.begin.ensures.cause.later rose)
