@@ -101,7 +101,7 @@ fn content(
     let mut content = Bytes::new(alloc);
     content.append(b"\x01\0denswh")?;
     content.append(&[0; 16376])?;
-    for word in [2, 0, 1, 1, eps, minpts, cap, batches, 0, 0, 0] {
+    for word in [2, 1, 1, 1, eps, minpts, cap, batches, 0, 0, 0] {
         content.append(&u32::to_le_bytes(word))?;
     }
     content.append(&[0; 16340])?;
