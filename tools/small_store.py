@@ -73,7 +73,7 @@ class Store:
         """Judges an opening whose report was said; answers whether a batch was on the disk without its receipt."""
         data, records, slot = self.bytes(), {}, 16 + self.dim
         pages, dim, batches, count = (struct.unpack_from("<I", data, PAGE + at)[0] for at in (0, 12, 28, 32))
-        for page in range(2 * PAGE, pages * PAGE, PAGE):
+        for page in (at for at in range(2 * PAGE, pages * PAGE, PAGE) if data[at] == 1):
             for at in range(page + 16, page + PAGE - slot + 1, slot):
                 number, = struct.unpack_from("<I", data, at)
                 if number:
