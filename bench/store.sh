@@ -20,7 +20,7 @@ import time
 from sessions import PROGRAM, Session, Times, seconds
 
 PART = int(sys.argv[1]) if len(sys.argv) > 1 else 1
-ROUNDS, CHANGES, CAP = 3, (1, 1000), 200_000
+ROUNDS, CHANGES, CAP, PORTION = 3, (1, 1000), 200_000, 20_000
 SQLITE = shutil.which("sqlite3")
 
 
@@ -55,14 +55,23 @@ def clock(words, text=""):
     return time.perf_counter() - before
 
 
-def here(count, rows, steps, times, said):
-    os.makedirs("store")
-    os.chdir("store")
-    width = len(rows[1])
-    seconds([PROGRAM, "init", "l1", str(width), "0", "2", str(CAP)])
+def bear(count, rows):
+    """A store of the records, and a table of them, each made once; the rounds work on copies."""
+    os.makedirs("first")
+    os.chdir("first")
+    seconds([PROGRAM, "init", "l1", str(len(rows[1])), "0", "2", str(CAP)])
     session = Session()
-    session.batch(insertions(range(1, count + 1), rows))
+    for first in range(1, count + 1, PORTION):
+        session.batch(insertions(range(first, min(first + PORTION, count + 1)), rows))
     session.end()
+    if SQLITE:
+        begin = ["create table r(n integer primary key, v blob);", "begin;"]
+        whole = [f"insert into r values({n},x'{rows[n].hex()}');" for n in range(1, count + 1)]
+        clock([SQLITE, "r.db"], "\n".join(begin + whole + ["commit;"]))
+    os.chdir("..")
+
+
+def here(count, steps, times, said):
     size = os.path.getsize("warehouse.idb")
     session = Session()
     times.add("opening", session.opening.busy)
@@ -76,19 +85,13 @@ def here(count, rows, steps, times, said):
         times.add(f"saving {changes} by the clock", cost.wall)
         said[changes] = f"{(wrote(session) - before - len(answer)) / 1024:.0f} KB written"
     session.end()
-    os.chdir("..")
-    shutil.rmtree("store")
 
 
-def sqlite(count, rows, steps, times):
-    begin = ["pragma synchronous=full;", "create table r(n integer primary key, v blob);", "begin;"]
-    whole = [f"insert into r values({n},x'{rows[n].hex()}');" for n in range(1, count + 1)]
-    clock([SQLITE, "r.db"], "\n".join(begin + whole + ["commit;"]))
+def sqlite(steps, times):
     times.add("SQLite opening", clock([SQLITE, "r.db"], "select sum(n), sum(length(v)), max(hex(v)) from r;"))
     for changes, _, statements in steps:
         text = "\n".join(["pragma synchronous=full;", "begin;", *statements, "commit;"])
         times.add(f"SQLite {changes}", clock([SQLITE, "r.db"], text))
-    os.remove("r.db")
 
 
 for width in (8, 128):
@@ -97,10 +100,16 @@ for width in (8, 128):
         rows = {n: draw.randbytes(width) for n in range(1, count + 1)}
         steps = list(batches(count, dict(rows), draw))
         times, said = Times(), {}
+        bear(count, rows)
         for _ in range(ROUNDS):
-            here(count, rows, steps, times, said)
+            shutil.copytree("first", "round")
+            os.chdir("round")
+            here(count, steps, times, said)
             if SQLITE:
-                sqlite(count, rows, steps, times)
+                sqlite(steps, times)
+            os.chdir("..")
+            shutil.rmtree("round")
+        shutil.rmtree("first")
         print(f"{count} records of {width} bytes: {said['file']}, {said['memory']}")
         print("  opening: " + times.said("opening"))
         print("  opening by the clock: " + times.beside("opening by the clock", "SQLite opening"))
