@@ -27,3 +27,4 @@ pub mod SavedNodes
 pub mod SavedCounts
 pub mod SavedWritten
 pub mod SavedLoads
+pub mod SavedAgain

@@ -165,7 +165,7 @@ module _ (below : Below) (dist : List ℕ → List ℕ → ℕ) (most : ℕ → 
   nodes = map (referred laid.refs) shapes
 
   -- the slots, their vectors and their lines
-  slots_are : all_slots (saved_bodies h.values bodies records.vectors kept) ≡ map (slot_for records.vectors kept) (numbers_after h.values bodies records.vectors)
+  pub slots_are : all_slots (saved_bodies h.values bodies records.vectors kept) ≡ map (slot_for records.vectors kept) (numbers_after h.values bodies records.vectors)
   slots_are =
       slots_back size_here laid.kinds (map (slot_for records.vectors kept) numbers) (map (leaf_for nodes) laid.leaves) (map (inner_for nodes) laid.inners)
       (laid_sized below dist most h bodies pages records kept are can).kinds_are (slots_long below dist most h bodies pages records kept are can)

@@ -6,6 +6,7 @@ use mtree_index::laws::trees_are_small;
 use mtree_node::laws::trees_can_be_built;
 use node_places::laws::records_stand;
 use node_walks::laws::distances_are_alike;
+use page_layout::laws::{bodies_have_one_spelling, heads_have_one_spelling, written_are_pages};
 use stored_tree::laws::laid_trees_are_read;
 use tree_layout::laws::{layouts_are_sized, nodes_are_laid};
 use tree_objects::laws::{shapes_have_all, trees_have_few_shapes};
@@ -26,7 +27,17 @@ pub(crate) fn saved_are_lawful()
 /// two slots.
 pub(crate) fn saved_are_read()
     ensures { SavedAreRead }
-{}
+{
+    layouts_are_sized();
+    records_stand();
+    trees_are_small();
+    trees_have_few_shapes();
+    trees_can_be_built();
+    shapes_have_all();
+    heads_have_one_spelling();
+    bodies_have_one_spelling();
+    written_are_pages();
+}
 
 /// Where the clusters hang on cores, what is saved loads as what it was.
 pub(crate) fn saved_load()
