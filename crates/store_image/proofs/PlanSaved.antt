@@ -95,11 +95,8 @@ kept_after keep v tags records kept new new_is fits is = record {
   eps = ap (λ (k : Kept). k.eps) new_is ∙ is.eps;
   minpts = ap (λ (k : Kept). k.counts.minpts) new_is ∙ is.minpts;
   fits = fits is.fits;
-  spelled = subst (λ (k : Kept). IsSpelled k) (sym new_is) (keep (is_spelled v.metric v.dim) tags kept.tree is.spelled);
+  spelled = subst (λ (k : Kept). AllPass (is_spelled v.metric v.dim) k.tree) (sym new_is) (keep (is_spelled v.metric v.dim) tags kept.tree is.spelled);
 }
-  where
-    abbrev IsSpelled : Kept → Type 0
-    IsSpelled k = AllPass (is_spelled v.metric v.dim) k.tree
 
 -- a reference for each node is a tag for each node
 pub tags_fit : (refs : List ℕ) (height : ℕ) (root : Option Node) → length refs ≡ length (shapes_at height root) → IfSome root (λ n. length refs ≡ size height n)
