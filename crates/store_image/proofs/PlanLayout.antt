@@ -1,7 +1,6 @@
 -- What a save needs and leads to, before its pages are filled.
-use Rattle.std.proofs.Common.{◌≡◌, inl, inr, ℕ, zero, suc, ◌+◌, ◌-◌, ◌*◌, ◌/◌, ◌%◌, ◌<◌, ◌≤◌, ◌^◌, Bool, true, false, cond, ◌||◌, ◌&&◌, List, [], ◌∷◌, length, map, replicate, get_or, Option, Some, None, Result, Ok, Err, refl, sym, ◌∙◌, ap, subst, arith, IsTrue}
+use Rattle.std.proofs.Common.{◌≡◌, inl, inr, ℕ, zero, suc, ◌+◌, ◌-◌, ◌*◌, ◌/◌, ◌<◌, ◌≤◌, ◌^◌, Bool, true, false, ◌||◌, ◌&&◌, List, [], ◌∷◌, length, replicate, get_or, Option, Some, None, Result, Ok, Err, refl, sym, ◌∙◌, ap, subst, arith, IsTrue}
 use Rattle.std.specs.Prelude.{◌==◌, nat_le, is_some, unwrap_or}
-use Rattle.std.specs.List.{AllByRecursion}
 use Rattle.std.specs.FinMap as maps
 use Rattle.std.proofs.lemmas.Bool.{and_parts, eqb-true, leb-true, false≢true}
 use Rattle.std.proofs.lemmas.List.{length-replicate}
@@ -9,14 +8,14 @@ use Rattle.std.proofs.lemmas.Nat.{div_below, le-div, div-add-mod'}
 use Rattle.std.proofs.Math.Nat.{mul-le-mul_left, le-max_right}
 use Rattle.vec_record.specs.Held as held
 use Rattle.vec_record.specs.Vectors.{AreBytes, IsVector, IsWidth}
-use Rattle.vec_record.specs.Limits.{are_within, is_between, greatest_dim, width_of}
+use Rattle.vec_record.specs.Limits.{are_within, is_between, greatest_dim}
 use Rattle.mtree_node.specs.declared.node.Node.{Node}
 use Rattle.mtree_node.specs.Tree.{leaves, records, IsTree}
 use Rattle.mtree_node.specs.Preorder.{preorder}
 use Rattle.mtree_index.specs.Plain.{PlainTree}
 use Rattle.mtree_index.specs.Tree.{contents, IsRoot, IsLawful}
 use Rattle.mtree_index.specs.Laws.{HaveAnEntryForEach}
-use Rattle.tree_objects.specs.Sizes.{is_leaf, is_inner, HaveFewLeafShapes, HaveFewInnerShapes, HaveTwoKinds}
+use Rattle.tree_objects.specs.Sizes.{HaveFewLeafShapes, HaveFewInnerShapes, HaveTwoKinds}
 use Rattle.node_places.specs.Slots.{has, record_slots, AreApart}
 use Rattle.node_places.specs.Nodes.{count_of}
 use Rattle.node_places.specs.Laws.{RecordsStand}

@@ -1,6 +1,5 @@
 -- What a save that was planned leads to: its pages, their writes, and the state behind them.
-use Rattle.std.proofs.Common.{◌≡◌, ℕ, suc, ◌+◌, ◌-◌, ◌*◌, ◌/◌, ◌<◌, ◌≤◌, max, List, [], ◌∷◌, ◌++◌, length, map, drop, get_or, Option, Some, None, Result, Ok, Err, refl, sym, ◌∙◌, ap, subst, arith, length-append}
-use Rattle.std.specs.List.{AllByRecursion}
+use Rattle.std.proofs.Common.{◌≡◌, ℕ, ◌+◌, ◌-◌, ◌*◌, ◌/◌, ◌<◌, ◌≤◌, List, [], ◌∷◌, ◌++◌, length, map, drop, get_or, Option, Some, None, Result, Ok, Err, refl, sym, ◌∙◌, ap, subst, arith, length-append}
 use Rattle.std.specs.Option.{IfSome}
 use Rattle.std.proofs.lemmas.List.{length-map, length-drop}
 use Rattle.std.proofs.lemmas.Nat.{le-div}
@@ -14,17 +13,15 @@ use Rattle.mtree_node.specs.declared.shape.Shape.{Shape}
 use Rattle.mtree_node.specs.Preorder.{size}
 use Rattle.mtree_node.proofs.Sizes.{shapes_length}
 use Rattle.tree_objects.specs.Laws.{AllPass, TagsKeep}
-use Rattle.node_places.specs.Slots.{AreApart}
-use Rattle.node_places.specs.Nodes.{count_of, kinds_after}
+use Rattle.node_places.specs.Nodes.{count_of}
 use Rattle.node_places.specs.Laws.{RecordsStand}
 use Rattle.kept_clusters.specs.Kept.{Kept, Fit, with_tags}
 use Rattle.tree_layout.specs.Layouts.{Laid, leaf_for, inner_for, referred}
 use Rattle.tree_layout.specs.Laws.{LayoutsAreSized}
 use Rattle.stored_tree.specs.Shapes.{shapes_at, shapes_of}
-use Rattle.page_layout.specs.declared.fault.LayoutFault.{LayoutFault}
 use Rattle.page_layout.specs.declared.body.Body.{Body}
-use Rattle.page_layout.specs.Heads.{Values, HeadValue, IsHead, head_of, head_page, plain}
-use Rattle.page_layout.specs.Bodies.{IsBody, body_of, body_bytes}
+use Rattle.page_layout.specs.Heads.{Values, HeadValue, head_of, head_page}
+use Rattle.page_layout.specs.Bodies.{body_of, body_bytes}
 use Rattle.page_gate.specs.Gate as gate
 use Rattle.page_gate.specs.Writes.{written, new_count, IsPlan}
 use Rattle.store_image.specs.declared.fault.StoreFault.{StoreFault}

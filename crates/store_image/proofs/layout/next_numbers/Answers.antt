@@ -6,8 +6,6 @@ use Rattle.vec_record.specs.Limits.{width_of}
 use Rattle.vec_record.proofs.Greatest.{greatest_small}
 use Rattle.node_places.specs.Slots.{has, record_slots}
 use Rattle.count_book.specs.Counted.{Counted}
-use Rattle.page_layout.specs.Heads.{values_of}
-use Rattle.store_image.specs.Placing.{size_on}
 use Rattle.store_image.specs.inside.Saves.{IsSmallRow}
 use Rattle.store_image.proofs.PlanLayout.{size_some, size_small, keys_stand, bounded}
 use Rattle.store_image.proofs.layout.next_numbers.Goals as goal
