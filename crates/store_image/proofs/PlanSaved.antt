@@ -69,7 +69,7 @@ next_are h bodies vectors kept next is =
     let v = h.values in
     let laid = saved_laid v bodies vectors kept in
     let with : List ℕ → List ℕ → List Shape → List ℕ → List ℕ → List Body = λ kinds numbers shapes leaves inners.
-      bodies_with (size_on v) kinds (map (slot_for vectors kept) numbers) (map (leaf_for shapes) leaves) (map (inner_for shapes) inners) in
+    bodies_with (size_on v) kinds (map (slot_for vectors kept) numbers) (map (leaf_for shapes) leaves) (map (inner_for shapes) inners) in
     let shapes = map (referred laid.refs) (shapes_of kept.tree) in
     let numbers = numbers_after v bodies vectors in
     ap (λ (l : List ℕ). with l next.numbers.items next.shapes next.laid.leaves.items next.laid.inners.items) is.kinds

@@ -35,8 +35,8 @@ returns-clause-bounded g c =
     let rows : (k : ℕ) → k < length ns → IsSmallRow (maps.get s.clusters.counts.rows (get_or ns k 0)) =
     λ k lt. subst (λ (counts : Counted). IsSmallRow (maps.get counts.rows (get_or ns k 0))) c.counts.ensures (c.know_rows.ensures.rows k lt) in
     let far : (u x : List ℕ) → IsVector s.records.width u → IsVector s.records.width x → g.M.Metric.dist u x < 2 ^ 32 = λ u x one two.
-      let width = s.records.width in
-      let bound = g.met.M.Metric.bound width u x c.know_records.ensures.width one two in
-      let defined = g.met.M.Metric.defined width u x c.know_records.ensures.width one two in
-      omega (arith, bound, defined.1, greatest_small g.M.Metric.KIND width c.know_records.ensures.width) in
+    let width = s.records.width in
+    let bound = g.met.M.Metric.bound width u x c.know_records.ensures.width one two in
+    let defined = g.met.M.Metric.defined width u x c.know_records.ensures.width one two in
+    omega (arith, bound, defined.1, greatest_small g.M.Metric.KIND width c.know_records.ensures.width) in
     bounded g.M.Metric.dist s.records s.clusters ns c.requires.kept.fits stood c.know_rows.ensures.numbers rows far

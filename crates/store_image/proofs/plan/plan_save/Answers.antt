@@ -135,8 +135,8 @@ returns-clause-loads g c =
     let can = c.in_ok-next.ensures.saved in
     let width : IsWidth s.records.width = subst IsWidth c.requires.kept.fits.held.same_width can.lawful.width in
     let alike : IsOfKind h s.records g.M.Metric.dist = λ (u : List ℕ) (v : List ℕ) (one : IsVector s.records.width u) (two : IsVector s.records.width v).
-      let both = g.met.M.Metric.defined s.records.width u v width one two in
-      both.0 ∙ ap (λ (k : MetricKind). distance_of k u v) (sym c.requires.kind) in
+    let both = g.met.M.Metric.defined s.records.width u v width one two in
+    both.0 ∙ ap (λ (k : MetricKind). distance_of k u v) (sym c.requires.kind) in
     let image : image_with (plain c.in_ok-next.next.head) s.records c.retag.new.self ≡ saved_image h bodies s.records s.clusters =
     ap (λ (x : HeadValue). image_with x s.records c.retag.new.self) next.head
     ∙ ap (λ (k : Kept). image_with (saved_head h bodies s.records.vectors s.clusters) s.records k)
