@@ -19,6 +19,7 @@ pub mod PlanFilling
 pub mod PlanWrites
 pub mod PlanBodies
 pub mod PlanLayout
+pub mod PlanSaved
 pub mod SavedBodies
 pub mod SavedReads
 pub mod SavedNumbers
