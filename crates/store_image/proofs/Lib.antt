@@ -24,3 +24,5 @@ pub mod SavedReads
 pub mod SavedNumbers
 pub mod SavedSlots
 pub mod SavedNodes
+pub mod SavedCounts
+pub mod SavedWritten

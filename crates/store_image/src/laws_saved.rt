@@ -2,10 +2,23 @@
 
 ghost use Rattle.store_image.specs.SavedLaws.{SavedAreLawful, SavedAreRead, SavedLoad};
 
+use mtree_index::laws::trees_are_small;
+use mtree_node::laws::trees_can_be_built;
+use node_places::laws::records_stand;
+use tree_layout::laws::layouts_are_sized;
+use tree_objects::laws::{shapes_have_all, trees_have_few_shapes};
+
 /// What is saved can be written: the head is lawful, and so is each body page.
 pub(crate) fn saved_are_lawful()
     ensures { SavedAreLawful }
-{}
+{
+    layouts_are_sized();
+    records_stand();
+    trees_are_small();
+    trees_have_few_shapes();
+    trees_can_be_built();
+    shapes_have_all();
+}
 
 /// What is saved is read again: its head and its body pages, no more than needed, and no number in
 /// two slots.
