@@ -14,6 +14,7 @@ use Rattle.mtree_node.specs.declared.node.Node.{Node}
 use Rattle.mtree_node.specs.declared.shape.Shape.{Shape}
 use Rattle.mtree_node.specs.declared.shape.Shape.TheVariants as shape
 use Rattle.mtree_node.specs.Preorder.{preorder}
+use Rattle.mtree_node.specs.Tree.{leaves}
 use Rattle.mtree_node.specs.Laws.{TreesCanBeBuilt}
 use Rattle.mtree_index.specs.Tree.{records_of, IsRoot}
 use Rattle.mtree_index.specs.Laws.{HaveAnEntryForEach}
@@ -84,6 +85,9 @@ leaves_few before count pages nodes cap old held few is =
 inners_few : (before count pages nodes cap : ℕ) → before ≤ cap / 42 + 1 → count ≤ cap → nodes ≤ count / 42 + 1 → pages ≤ max before nodes → pages ≤ cap / 42 + 1
 inners_few before count pages nodes cap old held few is = omega (arith, old, held, few, is, div-add-mod' cap 42, div-add-mod' count 42)
 
+nodes_few : (leaf inner all long : ℕ) → long ≤ 200000 → leaf ≤ long / 7 + 1 → inner ≤ long / 42 + 1 → leaf + inner ≡ all → all ≤ 200000
+nodes_few leaf inner all long few a b both = omega (arith, few, a, b, both, div-add-mod' long 7, div-add-mod' long 42)
+
 -- how many nodes are leaves, and how many aren't
 leaves_counted : (shapes : List Shape) → leaf_count shapes ≡ count_by is_leaf shapes
 leaves_counted [] = refl
@@ -116,6 +120,13 @@ module _ (dist : List ℕ → List ℕ → ℕ) (width greatest h : ℕ) where
   inners_at entries law (Some n) is =
       let few = law dist width greatest h n is in
       subst (λ (k : ℕ). inner_count (preorder h n) ≤ k / 42 + 1) (entries dist width greatest h n is) (omega (arith, inners_counted (preorder h n), few))
+
+pub nodes_at : Below → (dist : List ℕ → List ℕ → ℕ) (width greatest h : ℕ) (root : Option Node) → IsRoot dist width greatest h root → maps.len (records_of h root) ≤ 200000 → length (shapes_at h root) ≤ 200000
+nodes_at below dist width greatest h None is few = omega arith
+nodes_at below dist width greatest h (Some n) is few =
+    let each = below.entries dist width greatest h n is in
+    nodes_few (count_by is_leaf (preorder h n)) (count_by is_inner (preorder h n)) (length (preorder h n)) (length (leaves h n)) (subst (λ (k : ℕ). k ≤ 200000) (sym each) few)
+    (below.leaf_shapes dist width greatest h n is) (below.inner_shapes dist width greatest h n is) (below.two_kinds dist width greatest h n is)
 
 -- pages that are few, by their kinds
 pub record AreFewKinds (v : Values) (kinds : List ℕ) : Type 0 where

@@ -1,15 +1,15 @@
 -- What is saved can be written: its head and its body pages are lawful.
-use Rattle.std.proofs.Common.{◌≡◌, ℕ, ◌+◌, ◌*◌, ◌/◌, ◌<◌, ◌≤◌, ◌^◌, Bool, cond, List, [], ◌∷◌, length, map, drop, get_or, Option, Some, None, refl, sym, ◌∙◌, ap, subst, arith, IsTrue}
+use Rattle.std.proofs.Common.{◌≡◌, ℕ, ◌+◌, ◌*◌, ◌/◌, ◌<◌, ◌≤◌, ◌^◌, ◌&&◌, Bool, cond, List, [], ◌∷◌, length, map, drop, get_or, Option, Some, None, refl, sym, ◌∙◌, ap, subst, arith, IsTrue}
 use Rattle.std.specs.Prelude.{◌==◌, ◌≢◌, nat_le}
 use Rattle.std.specs.List.{AllByRecursion}
 use Rattle.std.specs.Ordering.{nat_cmp}
 use Rattle.std.specs.FinMap as maps
-use Rattle.std.proofs.lemmas.Bool.{eq-eqb, ne_eqb, le-leb}
+use Rattle.std.proofs.lemmas.Bool.{eq-eqb, ne_eqb, le-leb, leb-true, and_parts}
 use Rattle.std.proofs.lemmas.List.{length-map, nil_from_length}
 use Rattle.std.proofs.lemmas.Nat.{div-add-mod'}
 use Rattle.vec_record.specs.Held as held
 use Rattle.vec_record.specs.Vectors.{IsVector}
-use Rattle.vec_record.specs.Limits.{is_between, width_of}
+use Rattle.vec_record.specs.Limits.{are_within, is_between, greatest_dim, width_of}
 use Rattle.vec_record.specs.Distance.{greatest_of}
 use Rattle.vec_record.specs.Spelled.{is_spelled}
 use Rattle.mtree_node.specs.declared.node.Node.{Node}
@@ -36,9 +36,8 @@ use Rattle.store_image.proofs.SavedBodies.{AreParts, bodies_lawful}
 use Rattle.store_image.proofs.SavedNumbers.{used_in}
 use Rattle.store_image.proofs.SavedSlots.{none_at_zero, slots_lawful, lines_lawful}
 use Rattle.store_image.proofs.SavedNodes.{IsGoodRow, AreGoodRows, IsGoodShape, IsNumber, nodes_good, AreRefs, leaves_written, inners_written}
-use Rattle.store_image.proofs.SavedCounts.{Below, tree_width, no_record_at_zero, apart, all_stand, laid_sized, slots_long, saved_kinds, saved_few}
+use Rattle.store_image.proofs.SavedCounts.{Below, nodes_at, tree_width, no_record_at_zero, apart, all_stand, laid_sized, slots_long, saved_kinds, saved_few}
 use Rattle.store_image.proofs.LoadFacts.{few_bounded, kinds_few}
-use Rattle.store_image.proofs.PlanLayout.{cap_small, nodes_few}
 
 -- the root and the height beside the number of records
 pub record IsRooted (count root height : ℕ) : Type 0 where
@@ -52,7 +51,7 @@ rooted_none count root height none no_root flat = record {
 }
 
 between : (height : ℕ) → 1 ≤ height → height ≤ 6 → IsTrue (is_between 1 6 height)
-between height some low = subst (λ (b : Bool). IsTrue (cond b (nat_le height 6) b)) (sym (le-leb 1 height some)) (le-leb height 6 low)
+between height some low = ap (λ (b : Bool). b && nat_le height 6) (le-leb 1 height some) ∙ le-leb height 6 low
 
 rooted_some : (count root height : ℕ) → (count ≡ 0 → ⊥) → root ≢ 0 → (height ≡ 0 → ⊥) → height ≤ 6 → IsRooted count root height
 rooted_some count root height some a_root high low = record {
@@ -111,6 +110,30 @@ refs_small limit refs few each = all_weaker (λ r. r / 64 < limit + 2) (λ r. r 
   where
     one : (r : ℕ) → r / 64 < limit + 2 → r < 2 ^ 32
     one r small = omega (arith, div-add-mod' r 64, small, few)
+
+-- numbers in a head
+both_few : (n cap : ℕ) → n ≤ cap → cap ≤ 200000 → n ≤ 200000
+both_few n cap few small = omega (arith, few, small)
+
+at_least : (n : ℕ) → 2 ≤ 2 + n
+at_least n = omega arith
+
+fits : (n : ℕ) → n ≤ 300000 → 2 + n < 2 ^ 32
+fits n few = omega (arith, few)
+
+one_more : (n : ℕ) → n < 4294967295 → n + 1 < 2 ^ 32
+one_more n less = omega (arith, less)
+
+first_small : (refs : List ℕ) → AllByRecursion (λ r. r < 2 ^ 32) refs → get_or refs 0 0 < 2 ^ 32
+first_small [] each = omega arith
+first_small (r ∷ refs) each = each.0
+
+cap_small : (v : Values) → IsTrue (are_within v.metric v.dim v.eps v.minpts v.cap) → v.cap ≤ 200000
+cap_small v within =
+    let a = and_parts (is_between 1 (greatest_dim v.metric) v.dim) (is_between 0 65535 v.eps && (is_between 1 65535 v.minpts && is_between 1 200000 v.cap)) within in
+    let b = and_parts (is_between 0 65535 v.eps) (is_between 1 65535 v.minpts && is_between 1 200000 v.cap) a.1 in
+    let c = and_parts (is_between 1 65535 v.minpts) (is_between 1 200000 v.cap) b.1 in
+    leb-true v.cap 200000 (and_parts (nat_le 1 v.cap) (nat_le v.cap 200000) c.1).1
 
 module _ (below : Below) (dist : List ℕ → List ℕ → ℕ) (most : ℕ → ℕ) (h : HeadValue) (bodies : List Body) (pages : List (List ℕ)) (records : held.Held) (kept : Kept)
     (are : ArePagesOf h bodies pages) (can : CanBeSaved dist most h records kept) where
@@ -193,7 +216,9 @@ module _ (below : Below) (dist : List ℕ → List ℕ → ℕ) (most : ℕ → 
   head_is =
       let sized = laid_sized below dist most h bodies pages records kept are can in
       let held_are : maps.len (records_of kept.tree.height kept.tree.root) ≡ maps.len records.vectors = ap maps.len can.kept_is.fits.held.same_pairs in
-      let few : length shapes ≤ 200000 = nodes_below in
+      let cap = cap_small h.values can.head.values in
+      let held_few : maps.len (records_of kept.tree.height kept.tree.root) ≤ 200000 = subst (λ (n : ℕ). n ≤ 200000) (sym held_are) (both_few (maps.len records.vectors) h.values.cap can.can.few cap) in
+      let few : length shapes ≤ 200000 = nodes_at below dist kept.tree.width (most kept.tree.width) kept.tree.height kept.tree.root can.lawful.root held_few in
       let at : IsRooted (maps.len records.vectors) (get_or laid.refs 0 0) kept.tree.height =
       subst (λ (n : ℕ). IsRooted n (get_or laid.refs 0 0) kept.tree.height) held_are
       (rooted below dist kept.tree.width (most kept.tree.width) kept.tree.height can.lawful.low kept.tree.root laid.refs can.lawful.root few sized.refs_are sized.some) in
@@ -208,28 +233,6 @@ module _ (below : Below) (dist : List ℕ → List ℕ → ℕ) (most : ℕ → 
         root_fits = first_small laid.refs refs_are.small;
         height = at.height_is;
       }
-    where
-      nodes_below : length shapes ≤ 200000
-      nodes_below =
-          let cap = cap_small h.values can.head.values in
-          let held_few : maps.len (contents kept.tree) ≤ 200000 = subst (λ (r : held.Rows). maps.len r ≤ 200000) (sym can.kept_is.fits.held.same_pairs) (both_few (maps.len records.vectors) h.values.cap can.can.few cap) in
-          nodes_few below.entries below.leaf_shapes below.inner_shapes below.two_kinds dist most kept.tree can.lawful held_few
-
-      both_few : (n cap : ℕ) → n ≤ cap → cap ≤ 200000 → n ≤ 200000
-      both_few n cap few small = omega (arith, few, small)
-
-      at_least : (n : ℕ) → 2 ≤ 2 + n
-      at_least n = omega arith
-
-      fits : (n : ℕ) → n ≤ 300000 → 2 + n < 2 ^ 32
-      fits n few = omega (arith, few)
-
-      one_more : (n : ℕ) → n < 4294967295 → n + 1 < 2 ^ 32
-      one_more n less = omega (arith, less)
-
-      first_small : (refs : List ℕ) → AllByRecursion (λ r. r < 2 ^ 32) refs → get_or refs 0 0 < 2 ^ 32
-      first_small [] each = omega arith
-      first_small (r ∷ refs) each = each.0
 
 pub saved_are_lawful : Below → SavedAreLawful
 saved_are_lawful below dist most h bodies pages records kept are can = record {
