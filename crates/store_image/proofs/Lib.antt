@@ -19,8 +19,13 @@ pub mod PlanFilling
 pub mod PlanWrites
 pub mod PlanBodies
 pub mod PlanLayout
+pub mod PlanSaved
 pub mod SavedBodies
 pub mod SavedReads
 pub mod SavedNumbers
 pub mod SavedSlots
 pub mod SavedNodes
+pub mod SavedCounts
+pub mod SavedWritten
+pub mod SavedLoads
+pub mod SavedAgain

@@ -1,18 +1,16 @@
 -- Pages that are filled slot by slot.
-use Rattle.std.proofs.Common.{◌≡◌, ℕ, zero, suc, ◌+◌, ◌-◌, ◌<◌, ◌≤◌, Bool, cond, List, [], ◌∷◌, ◌++◌, length, map, take, drop, set, get_or, replicate, Option, None, refl, sym, ◌∙◌, ap, subst, arith, length-append, append_assoc}
+use Rattle.std.proofs.Common.{◌≡◌, ℕ, zero, suc, ◌+◌, ◌-◌, ◌<◌, ◌≤◌, Bool, cond, List, [], ◌∷◌, ◌++◌, length, map, take, drop, set, get_or, replicate, Option, None, refl, sym, ◌∙◌, ap, arith, length-append, append_assoc}
 use Rattle.std.specs.Prelude.{◌≢◌, ◌==◌}
 use Rattle.std.specs.List.{AllByRecursion}
 use Rattle.std.proofs.lemmas.Bool.{ne_eqb}
 use Rattle.std.proofs.lemmas.List.{length-map, length-drop, take-map, drop-map, get_or-drop, length-replicate, length-take-le, get_or_at, set_at, map_more, append-nil}
-use Rattle.vec_record.specs.Limits.{width_of}
 use Rattle.mtree_node.specs.declared.shape.Shape.{Shape}
 use Rattle.mtree_node.specs.Preorder.{LeafRow, InnerRow}
 use Rattle.tree_layout.specs.Layouts.{inner_for}
 use Rattle.page_layout.specs.declared.slot.Slot.{Slot}
-use Rattle.page_layout.specs.declared.body.Body.{Body}
 use Rattle.page_layout.specs.declared.body.Body.TheVariants as body
 use Rattle.page_layout.specs.Heads.{Values}
-use Rattle.page_layout.specs.Slots.{Rows, AreRows, IsRow, slots_in_page}
+use Rattle.page_layout.specs.Slots.{Rows, AreRows, IsRow}
 use Rattle.page_layout.specs.Leaves.{IsLeafRow, IsLeaf, AreLeaves}
 use Rattle.store_image.specs.inside.Saves.{first_body}
 

@@ -1,22 +1,21 @@
 -- What a save needs and leads to, before its pages are filled.
-use Rattle.std.proofs.Common.{◌≡◌, inl, inr, ℕ, zero, suc, ◌+◌, ◌-◌, ◌*◌, ◌/◌, ◌%◌, ◌<◌, ◌≤◌, ◌^◌, Bool, true, false, cond, ◌||◌, ◌&&◌, List, [], ◌∷◌, length, map, replicate, get_or, Option, Some, None, Result, Ok, Err, refl, sym, ◌∙◌, ap, subst, arith, IsTrue}
+use Rattle.std.proofs.Common.{◌≡◌, inl, inr, ℕ, zero, suc, ◌+◌, ◌-◌, ◌*◌, ◌/◌, ◌<◌, ◌≤◌, ◌^◌, Bool, true, false, ◌||◌, ◌&&◌, List, [], ◌∷◌, length, replicate, get_or, Option, Some, None, Result, Ok, Err, refl, sym, ◌∙◌, ap, subst, arith, IsTrue}
 use Rattle.std.specs.Prelude.{◌==◌, nat_le, is_some, unwrap_or}
-use Rattle.std.specs.List.{AllByRecursion}
 use Rattle.std.specs.FinMap as maps
 use Rattle.std.proofs.lemmas.Bool.{and_parts, eqb-true, leb-true, false≢true}
 use Rattle.std.proofs.lemmas.List.{length-replicate}
-use Rattle.std.proofs.lemmas.Nat.{div_below, div-add-mod'}
+use Rattle.std.proofs.lemmas.Nat.{div_below, le-div, div-add-mod'}
 use Rattle.std.proofs.Math.Nat.{mul-le-mul_left, le-max_right}
 use Rattle.vec_record.specs.Held as held
 use Rattle.vec_record.specs.Vectors.{AreBytes, IsVector, IsWidth}
-use Rattle.vec_record.specs.Limits.{are_within, is_between, greatest_dim, width_of}
+use Rattle.vec_record.specs.Limits.{are_within, is_between, greatest_dim}
 use Rattle.mtree_node.specs.declared.node.Node.{Node}
 use Rattle.mtree_node.specs.Tree.{leaves, records, IsTree}
 use Rattle.mtree_node.specs.Preorder.{preorder}
 use Rattle.mtree_index.specs.Plain.{PlainTree}
 use Rattle.mtree_index.specs.Tree.{contents, IsRoot, IsLawful}
 use Rattle.mtree_index.specs.Laws.{HaveAnEntryForEach}
-use Rattle.tree_objects.specs.Sizes.{is_leaf, is_inner, HaveFewLeafShapes, HaveFewInnerShapes, HaveTwoKinds}
+use Rattle.tree_objects.specs.Sizes.{HaveFewLeafShapes, HaveFewInnerShapes, HaveTwoKinds}
 use Rattle.node_places.specs.Slots.{has, record_slots, AreApart}
 use Rattle.node_places.specs.Nodes.{count_of}
 use Rattle.node_places.specs.Laws.{RecordsStand}
@@ -24,17 +23,19 @@ use Rattle.node_places.proofs.Keys.{has_keys}
 use Rattle.count_book.specs.declared.row.Row.{Row}
 use Rattle.kept_clusters.specs.Kept.{Kept, Fit}
 use Rattle.stored_tree.specs.Shapes.{shapes_at, shapes_of}
+use Rattle.mtree_node.specs.declared.shape.Shape.{Shape}
 use Rattle.tree_layout.specs.Layouts.{Laid, laid_of}
 use Rattle.tree_layout.specs.Laws.{AreKinds, AreSized, LayoutsAreSized}
 use Rattle.page_layout.specs.declared.fault.LayoutFault.{LayoutFault}
 use Rattle.page_layout.specs.declared.fault.LayoutFault.TheVariants as layout_fault
 use Rattle.page_layout.specs.declared.body.Body.{Body}
 use Rattle.page_layout.specs.Heads.{Values, HeadValue, IsHead, head_of}
+use Rattle.page_layout.specs.Slots.{slots_in_page}
 use Rattle.page_layout.specs.Laws.{IsPage, HeadsHaveOneSpelling}
 use Rattle.page_gate.specs.Gate.{part, number_4}
 use Rattle.store_image.specs.Contents.{kinds_of, count_of_kind}
 use Rattle.store_image.specs.Loading.{in_page, head_in_pages, record_limit, leaf_limit, inner_limit, are_few}
-use Rattle.store_image.specs.Placing.{size_on, numbers_after, saved_head, saved_laid, saved_bodies, saved_pages, AreBounded, ArePagesOf, CanBeSaved}
+use Rattle.store_image.specs.Placing.{size_on, numbers_after, head_with, saved_head, saved_laid, saved_bodies, saved_pages, AreBounded, ArePagesOf, CanBeSaved}
 use Rattle.store_image.specs.SavedLaws.{SavedAreRead}
 use Rattle.store_image.specs.inside.Saves.{IsSmallRow}
 use Rattle.store_image.proofs.SavedBodies.{counted, are_kinds, kinds_back}
@@ -57,10 +58,12 @@ head_read_is pages h is = at (head_of (get_or pages 0 [])) is
 pub head_lawful : HeadsHaveOneSpelling → (pages : List (List ℕ)) (h : HeadValue) → IsPage (get_or pages 0 []) → head_in_pages pages ≡ Ok h → IsHead h
 head_lawful spelled pages h page is = let both = (spelled (get_or pages 0 []) h page).0 (head_read_is pages h is) in both.0
 
--- bytes by their places
-pub bytes_by_place : (bs : List ℕ) → ((k : ℕ) → get_or bs k 0 < 256) → AreBytes bs
-bytes_by_place [] each = tt
-bytes_by_place (b ∷ bs) each = (each 0, bytes_by_place bs (λ k. each (suc k)))
+-- a record page has slots, and not too many
+pub size_some : (width : ℕ) → IsWidth width → 0 < slots_in_page width
+size_some width is = omega (arith, le-div 1 16368 (16 + width) (omega arith) (omega (arith, is.small)))
+
+pub size_small : (width : ℕ) → slots_in_page width ≤ 16384
+size_small width = omega (arith, div_below 16368 (16 + width) 16385 (omega arith) (omega arith))
 
 -- a vector of each width
 zeros_are : (n : ℕ) → AreBytes (replicate n 0)
@@ -78,11 +81,11 @@ pub record StandsIn (ns : List ℕ) (n : ℕ) : Type 0 where
 
 pub stands_in : (ns : List ℕ) (n : ℕ) → has ns n ≡ true → StandsIn ns n
 stands_in [] n is = absurd (false≢true is)
-stands_in (m ∷ ns) n is = by_test (m == n) refl is
+stands_in (m ∷ ns) n is = by_test (m == n) refl is (λ later. stands_in ns n later)
   where
-    by_test : (b : Bool) → (m == n) ≡ b → (b || has ns n) ≡ true → StandsIn (m ∷ ns) n
-    by_test true same here = record { place = 0; inside = omega arith; number = eqb-true m n same }
-    by_test false other later = let s = stands_in ns n later in record { place = suc s.place; inside = omega (arith, s.inside); number = s.number }
+    by_test : (b : Bool) → (m == n) ≡ b → (b || has ns n) ≡ true → (has ns n ≡ true → StandsIn ns n) → StandsIn (m ∷ ns) n
+    by_test true same here rest = record { place = 0; inside = omega arith; number = eqb-true m n same }
+    by_test false other later rest = let s = rest later in record { place = suc s.place; inside = omega (arith, s.inside); number = s.number }
 
 pub keys_stand : RecordsStand → (size : ℕ) (vectors : held.Rows) (numbers : List ℕ) → 0 < size → held.NoneAtZero vectors → AreApart numbers
     → (a : ℕ) → is_some (maps.get vectors a) ≡ true → has (record_slots size vectors numbers) a ≡ true
@@ -141,13 +144,13 @@ kinds_long [] are = refl
 kinds_long (kind ∷ kinds) are =
     let rest = kinds_long kinds are.1 in
     elim are.0 [
-  | inl one ↦ subst (λ (k : ℕ). length (k ∷ kinds) ≡ count_of 1 (k ∷ kinds) + (count_of 2 (k ∷ kinds) + count_of 3 (k ∷ kinds))) (sym one)
-      (omega (arith, rest, counted 1 1 kinds, counted 2 1 kinds, counted 3 1 kinds))
-  | inr (inl two) ↦ subst (λ (k : ℕ). length (k ∷ kinds) ≡ count_of 1 (k ∷ kinds) + (count_of 2 (k ∷ kinds) + count_of 3 (k ∷ kinds))) (sym two)
-      (omega (arith, rest, counted 1 2 kinds, counted 2 2 kinds, counted 3 2 kinds))
-  | inr (inr three) ↦ subst (λ (k : ℕ). length (k ∷ kinds) ≡ count_of 1 (k ∷ kinds) + (count_of 2 (k ∷ kinds) + count_of 3 (k ∷ kinds))) (sym three)
-      (omega (arith, rest, counted 1 3 kinds, counted 2 3 kinds, counted 3 3 kinds))
-]
+      | inl one ↦ subst (λ (k : ℕ). length (k ∷ kinds) ≡ count_of 1 (k ∷ kinds) + (count_of 2 (k ∷ kinds) + count_of 3 (k ∷ kinds))) (sym one)
+          (omega (arith, rest, counted 1 1 kinds, counted 2 1 kinds, counted 3 1 kinds))
+      | inr (inl two) ↦ subst (λ (k : ℕ). length (k ∷ kinds) ≡ count_of 1 (k ∷ kinds) + (count_of 2 (k ∷ kinds) + count_of 3 (k ∷ kinds))) (sym two)
+          (omega (arith, rest, counted 1 2 kinds, counted 2 2 kinds, counted 3 2 kinds))
+      | inr (inr three) ↦ subst (λ (k : ℕ). length (k ∷ kinds) ≡ count_of 1 (k ∷ kinds) + (count_of 2 (k ∷ kinds) + count_of 3 (k ∷ kinds))) (sym three)
+          (omega (arith, rest, counted 1 3 kinds, counted 2 3 kinds, counted 3 3 kinds))
+    ]
 
 pub cap_small : (v : Values) → IsTrue (are_within v.metric v.dim v.eps v.minpts v.cap) → v.cap ≤ 200000
 cap_small v within =
@@ -212,3 +215,18 @@ module _ (dist : List ℕ → List ℕ → ℕ) (most : ℕ → ℕ) (h : HeadVa
   records_few =
       let one : count_of 1 laid.kinds ≤ 200000 = subst (λ (ks : List ℕ). count_of 1 ks ≤ 200000) saved_kinds after_few.records_few in
       omega (arith, one, laid_sized.record_pages, le-max_right (count_of 1 (kinds_of bodies)) (length numbers / size_on h.values))
+
+-- what is laid is what a save lays, and so the head is
+pub laid_same : (v : Values) (bodies : List Body) (vectors : held.Rows) (kept : Kept) (kinds : List ℕ) (pages : ℕ) (shapes : List Shape)
+    → kinds ≡ kinds_of bodies → pages ≡ length (numbers_after v bodies vectors) / size_on v → shapes ≡ shapes_of kept.tree
+    → laid_of kinds pages shapes ≡ saved_laid v bodies vectors kept
+laid_same v bodies vectors kept kinds pages shapes kinds_is pages_is shapes_is =
+    ap (λ (ks : List ℕ). laid_of ks pages shapes) kinds_is
+    ∙ ap (λ (n : ℕ). laid_of (kinds_of bodies) n shapes) pages_is
+    ∙ ap (λ (ss : List Shape). laid_of (kinds_of bodies) (length (numbers_after v bodies vectors) / size_on v) ss) shapes_is
+
+pub head_same : (h : HeadValue) (laid : Laid) (vectors : held.Rows) (tree : PlainTree) (kinds refs : List ℕ) → kinds ≡ laid.kinds → refs ≡ laid.refs
+    → head_with h (record laid { kinds = kinds; refs = refs }) vectors tree ≡ head_with h laid vectors tree
+head_same h laid vectors tree kinds refs kinds_is refs_is =
+    ap (λ (ks : List ℕ). head_with h (record laid { kinds = ks; refs = refs }) vectors tree) kinds_is
+    ∙ ap (λ (rs : List ℕ). head_with h (record laid { refs = rs }) vectors tree) refs_is

@@ -64,7 +64,8 @@ fn put_record<M: Metric>(state: &Loaded<M>, place: usize, number: Number, out: &
 fn fill_slots<M: Metric>(state: &Loaded<M>, numbers: &[Number], out: &mut Page)
     requires { AreRows (plain state.now.head).values
         (map (slot_for state.now.records.vectors state.now.clusters) numbers.now) }
-    ensures { out.new ≡ record_page (width_of state.now.head.params.metric state.now.head.params.dim)
+    ensures { let params = state.now.head.params in
+        out.new ≡ record_page (width_of params.metric params.dim)
         (map (slot_for state.now.records.vectors state.now.clusters) numbers.now) }
 {
     clear_slots(out);

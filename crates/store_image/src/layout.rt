@@ -4,7 +4,7 @@ ghost use Rattle.std.specs.Prelude.{◌≡◌, ℕ, ◌+◌, ◌<◌, ◌^◌, O
 ghost use Rattle.std.specs.Prelude.{slice_index};
 ghost use Rattle.std.specs.FinMap as maps;
 ghost use Rattle.vec_record.specs.Held.{NoneAtZero};
-ghost use Rattle.vec_record.specs.Vectors.{IsWidth};
+ghost use Rattle.vec_record.specs.Vectors.{AreBytes, IsWidth};
 ghost use Rattle.mtree_index.specs.Tree.{IsLawful};
 ghost use Rattle.node_places.specs.Slots.{record_slots, AreApart};
 ghost use Rattle.stored_tree.specs.Shapes.{shapes_of};
@@ -23,7 +23,7 @@ use mtree_index::laws::trees_are_small;
 use mtree_node::{Shapes, flatten};
 use node_places::laws::records_stand;
 use node_places::record_slots;
-use page_gate::{Page, Pages};
+use page_gate::Pages;
 use page_layout::Head;
 use page_layout::laws::heads_have_one_spelling;
 use std::alloc::{AllocError, Global};
@@ -42,14 +42,10 @@ pub(crate) struct Next {
     pub(crate) laid: Layout,
 }
 
-/// The bytes of a page, of which there are 16,384.
-fn bytes_of(page: &Page) -> &[u8]
-    ensures same { result.now ≡ page.now }
-    ensures length { length page.now ≡ 16384 }
-    ensures small { (k : ℕ) → slice_index result.now k < 256 }
-{
-    page.as_slice()
-}
+/// Bytes are below 256.
+fn know_bytes(bytes: &[u8])
+    ensures { AreBytes bytes.now }
+{}
 
 /// The head that pages have is lawful.
 fn know_head(pages: &Pages, head: &Head)
@@ -58,7 +54,7 @@ fn know_head(pages: &Pages, head: &Head)
 {
     heads_have_one_spelling();
     if let Some(page) = pages.page(1) {
-        let _bytes = bytes_of(page);
+        know_bytes(page.as_slice());
     }
 }
 

@@ -1,6 +1,7 @@
 //! Which pages a save changes.
 
-ghost use Rattle.std.specs.Prelude.{◌≡◌, ℕ, List, ◌≤◌, ◌+◌, ◌-◌, ◌++◌, length, not, Ok, IfOk, OnOk, OnErr};
+ghost use Rattle.std.specs.Prelude.{◌≡◌, ◌≤◌, ◌+◌, ◌-◌, ◌++◌, ℕ, List, length, not, Ok};
+ghost use Rattle.std.specs.Prelude.{IfOk, OnOk, OnErr};
 ghost use Rattle.std.specs.List.{AllByRecursion};
 ghost use Rattle.vec_record.specs.Held.{Held};
 ghost use Rattle.page_layout.specs.Heads.{plain, IsHead};
@@ -19,6 +20,7 @@ use crate::laws::heads_count_pages;
 use crate::laws_saved::{saved_are_lawful, saved_are_read, saved_load};
 use crate::layout::{Next, next_places};
 use crate::loaded::{Loaded, Places};
+use node_places::laws::records_stand;
 use page_gate::{Page, PageWrite, PageWrites, Pages};
 use page_layout::write_head;
 use std::alloc::{AllocError, Global};
@@ -139,6 +141,7 @@ pub fn plan_save<M: Metric>(
     saved_load();
     layouts_are_sized();
     tags_keep();
+    records_stand();
     let next = next_places(alloc, pages, state)?;
     let count = next.head.pages as usize;
     pages.reserve(count - pages.count() as usize)?;

@@ -8,7 +8,7 @@ use Rattle.page_layout.specs.Inner.{AreInner, inner_page}
 use Rattle.page_layout.specs.Bodies.{IsBody, body_bytes}
 use Rattle.page_layout.specs.declared.body.Body.TheVariants as body
 use Rattle.store_image.specs.Placing.{size_on, slot_for}
-use Rattle.store_image.specs.inside.Saves.{body_behind}
+use Rattle.store_image.specs.inside.Saves.{body_behind, next_slots, next_leaves, next_inners}
 use Rattle.store_image.proofs.PlanFilling.{part_is, part_fits, body_else, inner_else}
 use Rattle.store_image.proofs.filling.fill_body.Goals as goal
 
@@ -84,7 +84,7 @@ write_inner-requires g c =
     let one : c.args.kind ≡ 1 → ⊥ = λ is. omega (arith, is) in
     let two : c.args.kind ≡ 2 → ⊥ = λ is. omega (arith, is) in
     let other : body_behind (size_on v) c.args.kind done next s.records.vectors s.clusters ≡ body.Inner (get_or (drop a (map (inner_for next.shapes) inners)) 0 []) =
-    body_else (size_on v) c.args.kind _ _ _ one two in
+    body_else (size_on v) c.args.kind (drop done.slots (next_slots next s.records.vectors s.clusters)) (drop done.leaves (next_leaves next)) (drop a (next_inners next)) one two in
     let whole : AreInner v (get_or (drop a (map (inner_for next.shapes) inners)) 0 []) = subst (IsBody v) other c.requires.body in
     let rows : c.inner_at.result.now ≡ get_or (drop a (map (inner_for next.shapes) inners)) 0 [] =
     c.inner_at.ensures ∙ ap (inner_for next.shapes) (c.number_at-number.ensures ∙ ap (λ (l : List ℕ). get_or l a 0) c.deref-in_default.ensures.value) ∙ inner_else next.shapes inners a in
@@ -101,7 +101,7 @@ returns-in_default-clause-filled g c =
     let one : c.args.kind ≡ 1 → ⊥ = λ is. omega (arith, is) in
     let two : c.args.kind ≡ 2 → ⊥ = λ is. omega (arith, is) in
     let other : body_behind (size_on v) c.args.kind done next s.records.vectors s.clusters ≡ body.Inner (get_or (drop a (map (inner_for next.shapes) inners)) 0 []) =
-    body_else (size_on v) c.args.kind _ _ _ one two in
+    body_else (size_on v) c.args.kind (drop done.slots (next_slots next s.records.vectors s.clusters)) (drop done.leaves (next_leaves next)) (drop a (next_inners next)) one two in
     let rows : c.inner_at.result.now ≡ get_or (drop a (map (inner_for next.shapes) inners)) 0 [] =
     c.inner_at.ensures ∙ ap (inner_for next.shapes) (c.number_at-number.ensures ∙ ap (λ (l : List ℕ). get_or l a 0) c.deref-in_default.ensures.value) ∙ inner_else next.shapes inners a in
     c.write_inner.ensures ∙ ap (inner_page (width_of s.head.params.metric s.head.params.dim)) rows ∙ sym (ap (body_bytes v) other)

@@ -1,6 +1,5 @@
-use Rattle.std.proofs.Common.{◌≤◌, ◌<◌, length, map, refl, ◌∙◌, ap, arith}
+use Rattle.std.proofs.Common.{◌≤◌, ◌<◌, length, ◌∙◌, ap, arith}
 use Rattle.std.specs.Prelude.{None}
-use Rattle.std.proofs.lemmas.List.{length-map}
 use Rattle.vec_record.specs.Limits.{width_of}
 use Rattle.page_layout.specs.Heads.{values_of}
 use Rattle.page_layout.specs.Slots.{IsRow, record_page}

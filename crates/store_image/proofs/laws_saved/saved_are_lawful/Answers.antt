@@ -1,9 +1,17 @@
-use Rattle.store_image.proofs.SavedNodes.{nodes_good, leaves_written, inners_written}
-use Rattle.store_image.proofs.SavedSlots.{slots_lawful, lines_lawful, lines_told, lines_long, vectors_back}
-use Rattle.store_image.proofs.SavedNumbers.{none_repeated, has_used, none_zero, each_some, used_once}
-use Rattle.store_image.proofs.SavedReads.{bodies_read, head_read, slots_read}
-use Rattle.store_image.proofs.SavedBodies.{kinds_back, slots_back, pages_back, bodies_lawful}
+use Rattle.store_image.proofs.SavedCounts.{Below}
+use Rattle.store_image.proofs.SavedWritten.{saved_are_lawful}
 use Rattle.store_image.proofs.laws_saved.saved_are_lawful.Goals as goal
 
 pub returns : goal.returns
-returns c = ?
+returns c =
+    let below : Below = record {
+      sized = c.layouts_are_sized.ensures;
+      stand = c.records_stand.ensures;
+      entries = c.trees_are_small.ensures.records;
+      leaf_shapes = c.trees_have_few_shapes.ensures.leaves;
+      inner_shapes = c.trees_have_few_shapes.ensures.inner_nodes;
+      two_kinds = c.trees_have_few_shapes.ensures.kinds;
+      built = c.trees_can_be_built.ensures;
+      objects = c.shapes_have_all.ensures.shapes;
+    } in
+    saved_are_lawful below

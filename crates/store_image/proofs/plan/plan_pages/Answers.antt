@@ -1,10 +1,10 @@
 use Rattle.std.proofs.Common.{ℕ, ◌+◌, ◌-◌, ◌<◌, ◌≤◌, ◌≡◌, length, get_or, sym, ◌∙◌, ap, subst, arith}
 use Rattle.page_gate.specs.Writes.{pairs}
 use Rattle.page_layout.specs.Heads.{values_of}
-use Rattle.page_layout.specs.Bodies.{IsBody, body_bytes}
+use Rattle.page_layout.specs.Bodies.{body_bytes}
 use Rattle.store_image.specs.Placing.{size_on}
 use Rattle.store_image.specs.inside.Saves.{done_after, body_behind}
-use Rattle.store_image.proofs.PlanBodies.{Planned, get_or_any, planned_first, planned_body, planned_next, planned_all}
+use Rattle.store_image.proofs.PlanBodies.{Planned, get_or_any, planned_next}
 use Rattle.store_image.proofs.plan.plan_pages.Goals as goal
 
 pub loop-number-preserved : goal.loop-number-preserved

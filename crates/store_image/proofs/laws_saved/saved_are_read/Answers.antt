@@ -1,0 +1,17 @@
+use Rattle.store_image.proofs.SavedCounts.{Below}
+use Rattle.store_image.proofs.SavedAgain.{saved_are_read}
+use Rattle.store_image.proofs.laws_saved.saved_are_read.Goals as goal
+
+pub returns : goal.returns
+returns c =
+    let below : Below = record {
+      sized = c.layouts_are_sized.ensures;
+      stand = c.records_stand.ensures;
+      entries = c.trees_are_small.ensures.records;
+      leaf_shapes = c.trees_have_few_shapes.ensures.leaves;
+      inner_shapes = c.trees_have_few_shapes.ensures.inner_nodes;
+      two_kinds = c.trees_have_few_shapes.ensures.kinds;
+      built = c.trees_can_be_built.ensures;
+      objects = c.shapes_have_all.ensures.shapes;
+    } in
+    saved_are_read below c.heads_have_one_spelling.ensures c.bodies_have_one_spelling.ensures c.written_are_pages.ensures

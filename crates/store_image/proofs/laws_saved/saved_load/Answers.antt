@@ -1,0 +1,17 @@
+use Rattle.store_image.proofs.SavedCounts.{Below}
+use Rattle.store_image.proofs.SavedLoads.{saved_load}
+use Rattle.store_image.proofs.laws_saved.saved_load.Goals as goal
+
+pub returns : goal.returns
+returns c =
+    let below : Below = record {
+      sized = c.layouts_are_sized.ensures;
+      stand = c.records_stand.ensures;
+      entries = c.trees_are_small.ensures.records;
+      leaf_shapes = c.trees_have_few_shapes.ensures.leaves;
+      inner_shapes = c.trees_have_few_shapes.ensures.inner_nodes;
+      two_kinds = c.trees_have_few_shapes.ensures.kinds;
+      built = c.trees_can_be_built.ensures;
+      objects = c.shapes_have_all.ensures.shapes;
+    } in
+    saved_load below c.nodes_are_laid.ensures c.laid_trees_are_read.ensures c.distances_are_alike.ensures.trees c.saved_are_read.ensures
