@@ -87,7 +87,8 @@ fn converse<M: Metric, W: Watcher, S: Source, T: Site, L: Ledger>(
         (T.state site.new) }
     ensures settled { IsTrue S.tells → IsTrue T.tells → IsClustered session.old.warehouse
         → (result ≡ Status.SourceFault) ⊎ (result ≡ Status.Memory) → IsEven
-        (desk_of W.says_after session.old.warehouse session.old.feed) (S.left source.old) (T.state site.old) (T.state site.new) }
+        (desk_of W.says_after session.old.warehouse session.old.feed) (S.left source.old)
+        (T.state site.old) (T.state site.new) }
     ensures status { (result ≡ Status.Fine) ⊎ (result ≡ Status.Refused) ⊎ (result ≡ Status.TooLong)
         ⊎ (is_fault result ≡ true) }
     ensures site { result ≡ Status.SiteFault → Rose (T.faults site.old) (T.faults site.new) }
@@ -148,7 +149,8 @@ pub fn hold_session<M: Metric, W: Watcher, S: Source, T: Site, L: Ledger>(
         (T.state site.new) }
     ensures settled { IsTrue S.tells → IsTrue T.tells → IsClustered session.warehouse
         → (result ≡ Status.SourceFault) ⊎ (result ≡ Status.Memory) → IsEven
-        (desk_of W.says_after session.warehouse session.feed) (S.left source.old) (T.state site.old) (T.state site.new) }
+        (desk_of W.says_after session.warehouse session.feed) (S.left source.old)
+        (T.state site.old) (T.state site.new) }
     ensures status { (result ≡ Status.Fine) ⊎ (result ≡ Status.Refused) ⊎ (result ≡ Status.TooLong)
         ⊎ (is_fault result ≡ true) }
     ensures site { result ≡ Status.SiteFault → Rose (T.faults site.old) (T.faults site.new) }

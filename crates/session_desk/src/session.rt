@@ -185,10 +185,12 @@ impl<M: Metric, W: Watcher> Session<M, W> {
             → IsAsked asked q → OnOk result ((T.state site.new).said ≡ (T.state site.old).said
             ++ (answer_on (desk_of W.says_after self.old.warehouse self.old.feed) q).text) }
         ensures moments { IsTrue T.tells → IsClustered self.old.warehouse → (q : Request)
-            → IsAsked asked q → Safe (T.state site.old) (T.state site.new) (IsReplying (desk_of W.says_after self.old.warehouse self.old.feed) q
+            → IsAsked asked q → Safe (T.state site.old) (T.state site.new)
+            (IsReplying (desk_of W.says_after self.old.warehouse self.old.feed) q
             (T.state site.old)) }
         ensures unsaved { IsTrue T.tells → IsClustered self.old.warehouse → (q : Request)
-            → IsAsked asked q → result ≡ Err Status.Memory → (c : List ℕ) → (T.state site.new).may_leave c
+            → IsAsked asked q → result ≡ Err Status.Memory → (c : List ℕ)
+            → (T.state site.new).may_leave c
             → IsStoreOf (desk_of W.says_after self.old.warehouse self.old.feed) c }
         ensures unsaid { IsTrue T.tells → result ≡ Err Status.Memory → (T.state site.new).said
             ≡ (T.state site.old).said }

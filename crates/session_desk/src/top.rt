@@ -48,9 +48,9 @@ pub fn run<S: Source, T: Site, L: Ledger>(
     watchers: Vec<Box<dyn Watcher>>,
     steps: &mut Steps<L>,
 ) -> Status
-    // `serve`, the headline: answers, crash and end, over a content that doesn't open or whose lines
-    // are those that are due. Completeness: where no count of faults rose, the status is the
-    // session's, or memory was wanting.
+    // `serve`, the headline: answers, crash and end, over a content that doesn't open or whose
+    // lines are those that are due. Completeness: where no count of faults rose, the status is
+    // the session's, or memory was wanting.
     ensures serves { IsTrue S.tells → IsTrue T.tells
         → command_of (map string_bytes words.now) ≡ Some Serve
         → HasDueLines (T.state site.old).content

@@ -161,7 +161,7 @@ const CALLS: u32 = 60;
 /// before it; behind the last call nothing does.
 #[test]
 fn broken_off(rt: HostRuntime) -> Result<(), Fail> {
-    for (is_birth, cuts) in [(false, 2 * 39), (true, 2 * 35)] {
+    for (is_birth, cuts) in [(false, 2 * 45), (true, 2 * 35)] {
         let content = before(&rt, is_birth)?;
         let mut cut = 0u32;
         for call in 0..=CALLS {

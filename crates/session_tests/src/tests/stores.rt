@@ -6,13 +6,23 @@ use std::alloc::{AllocError, Global};
 use std::test::Fail;
 use vec_record::{Bytes, Numbers};
 
-/// The content of a new store.
-fn new_store(rt: &HostRuntime) -> Result<Bytes, AllocError> {
+/// The runs that may be made before a file is changed: the birth of its store, and a batch with two
+/// cores.
+const RUNS: [(&str, &str); 2] = [
+    ("init l1 1 1 2 100", ""),
+    ("serve", "batch\n+,1,0\n+,2,1\nend\n"),
+];
+
+/// The content of a file behind so many of them.
+fn made(rt: &HostRuntime, runs: usize) -> Result<Bytes, AllocError> {
     let alloc = rt.alloc();
-    let words = words_of(alloc, "init l1 1 1 2 100")?;
-    let mut source = MemSource::new(Bytes::new(alloc), 1, Numbers::new(alloc));
     let mut site = MemSite::new(Bytes::new(alloc), Numbers::new(alloc), None);
-    let _ = run_in_memory(rt, &words, &mut source, &mut site)?;
+    for (words, input) in RUNS.iter().take(runs) {
+        let words = words_of(alloc, words)?;
+        let input = bytes_of(alloc, input.as_bytes())?;
+        let mut source = MemSource::new(input, 4096, Numbers::new(alloc));
+        let _ = run_in_memory(rt, &words, &mut source, &mut site)?;
+    }
     bytes_of(alloc, site.content())
 }
 
@@ -21,9 +31,47 @@ fn new_store(rt: &HostRuntime) -> Result<Bytes, AllocError> {
 fn new_store_bytes(rt: HostRuntime) -> Result<(), Fail> {
     let mut due = bytes_of(rt.alloc(), b"\x01\0denswh")?;
     due.append(repeated(rt.alloc(), b"\0", 16_376)?.as_slice())?;
-    due.append(b"\x02\0\0\0\0\0\0\0\x01\0\0\0\x01\0\0\0\x01\0\0\0\x02\0\0\0\x64\0\0\0")?;
+    due.append(b"\x02\0\0\0\x01\0\0\0\x01\0\0\0\x01\0\0\0\x01\0\0\0\x02\0\0\0\x64\0\0\0")?;
     due.append(repeated(rt.alloc(), b"\0", 16_356)?.as_slice())?;
-    assert_eq!(rt; new_store(&rt)?.as_slice(), due.as_slice());
+    assert_eq!(rt; made(&rt, 1)?.as_slice(), due.as_slice());
+    Ok(())
+}
+
+/// Where the pages behind two cores begin, and with which bytes: the head page with one batch, two
+/// records, the root and one level; the slots of the two, each with its count and its label; the
+/// leaf with both.
+const SAVED: [(usize, &[u8]); 3] = [
+    (
+        16_384,
+        b"\x04\0\0\0\x01\0\0\0\x01\0\0\0\x01\0\0\0\x01\0\0\0\x02\0\0\0\x64\0\0\0\
+        \x01\0\0\0\x02\0\0\0\xc0\0\0\0\x01\0\0\0\0",
+    ),
+    (
+        32_768,
+        b"\x01\0\0\0\0\0\0\0\0\0\0\0\0\0\0\0\
+        \x01\0\0\0\x02\0\0\0\0\0\0\0\x01\0\0\0\0\
+        \x02\0\0\0\x02\0\0\0\0\0\0\0\x01\0\0\0\x01\0",
+    ),
+    (
+        49_152,
+        b"\x02\0\0\0\0\0\0\0\0\0\0\0\0\0\0\0\
+        \x02\0\0\0\0\0\0\0\0\0\0\0\0\0\0\0\
+        \x01\0\0\0\0\0\0\0\x02\0\0\0\0\0\0\0\0",
+    ),
+];
+
+/// A batch is saved as pages of records and of leaves, with three redo items behind four pages.
+#[test]
+fn saved_bytes(rt: HostRuntime) -> Result<(), Fail> {
+    let content = made(&rt, 2)?;
+    assert_eq!(rt; content.len(), 4 * 16_384 + 3 * 16_392);
+    for (at, due) in &SAVED {
+        let begins = match content.as_slice().get(*at..) {
+            Some(rest) => rest.starts_with(due),
+            None => false,
+        };
+        assert!(rt; begins, "{at}");
+    }
     Ok(())
 }
 
@@ -44,8 +92,8 @@ fn run_on_file(
 /// A file that was changed by hand.
 #[derive(Clone, Copy, Drop)]
 struct Changed {
-    /// Whether it was a new store before; else it was empty.
-    born: bool,
+    /// How many runs were made before.
+    runs: usize,
     at: u64,
     bytes: &'static [u8],
     words: &'static str,
@@ -54,9 +102,9 @@ struct Changed {
     said: &'static str,
 }
 
-const CHANGED: [Changed; 8] = [
+const CHANGED: [Changed; 15] = [
     Changed {
-        born: false,
+        runs: 0,
         at: 99,
         bytes: b"\0",
         words: "serve",
@@ -65,7 +113,7 @@ const CHANGED: [Changed; 8] = [
         said: "blank store\n",
     },
     Changed {
-        born: false,
+        runs: 0,
         at: 99,
         bytes: b"\0",
         words: "init l1 1 1 2 100",
@@ -74,7 +122,7 @@ const CHANGED: [Changed; 8] = [
         said: "born\n",
     },
     Changed {
-        born: false,
+        runs: 0,
         at: 39_999,
         bytes: b"\0",
         words: "serve",
@@ -83,7 +131,7 @@ const CHANGED: [Changed; 8] = [
         said: "foreign store\n",
     },
     Changed {
-        born: false,
+        runs: 0,
         at: 39_999,
         bytes: b"\0",
         words: "init l1 1 1 2 100",
@@ -91,9 +139,9 @@ const CHANGED: [Changed; 8] = [
         status: Status::Exists,
         said: "store exists\n",
     },
-    // The version of the store, and its metric.
+    // The version of the store: an unknown one, and the one before the tree was kept.
     Changed {
-        born: true,
+        runs: 1,
         at: 16_388,
         bytes: b"\x07",
         words: "serve",
@@ -102,7 +150,17 @@ const CHANGED: [Changed; 8] = [
         said: "foreign store\n",
     },
     Changed {
-        born: true,
+        runs: 1,
+        at: 16_388,
+        bytes: b"\0",
+        words: "serve",
+        input: "report\n",
+        status: Status::Broken,
+        said: "foreign store\n",
+    },
+    // The metric.
+    Changed {
+        runs: 1,
         at: 16_392,
         bytes: b"\x09",
         words: "serve",
@@ -110,19 +168,79 @@ const CHANGED: [Changed; 8] = [
         status: Status::Broken,
         said: "damaged page 1 offset 8\n",
     },
-    // How many records it has: one that isn't there.
+    // How many records it has: one, and no root.
     Changed {
-        born: true,
+        runs: 1,
         at: 16_416,
         bytes: b"\x01",
         words: "serve",
         input: "report\n",
         status: Status::Broken,
+        said: "damaged page 1 offset 36\n",
+    },
+    // How many records it has: one that isn't there.
+    Changed {
+        runs: 2,
+        at: 16_416,
+        bytes: b"\x03",
+        words: "serve",
+        input: "report\n",
+        status: Status::Broken,
         said: "damaged page 1 offset 32\n",
+    },
+    // The root: a leaf slot that is free.
+    Changed {
+        runs: 2,
+        at: 16_420,
+        bytes: b"\xc1",
+        words: "serve",
+        input: "report\n",
+        status: Status::Broken,
+        said: "damaged page 1 offset 36\n",
+    },
+    // The count of the first record: by it it isn't a core, and has a label all the same.
+    Changed {
+        runs: 2,
+        at: 32_788,
+        bytes: b"\x01",
+        words: "serve",
+        input: "report\n",
+        status: Status::Broken,
+        said: "damaged page 2 offset 28\n",
+    },
+    // The label of the first record: a number that isn't below its own.
+    Changed {
+        runs: 2,
+        at: 32_796,
+        bytes: b"\x02",
+        words: "serve",
+        input: "report\n",
+        status: Status::Broken,
+        said: "damaged page 2 offset 28\n",
+    },
+    // The second number in the leaf: it has no record.
+    Changed {
+        runs: 2,
+        at: 49_192,
+        bytes: b"\x03",
+        words: "serve",
+        input: "report\n",
+        status: Status::Broken,
+        said: "damaged page 3 offset 40\n",
+    },
+    // Its distance from an object above: the leaf is the root.
+    Changed {
+        runs: 2,
+        at: 49_196,
+        bytes: b"\x01",
+        words: "serve",
+        input: "report\n",
+        status: Status::Broken,
+        said: "damaged page 3 offset 44\n",
     },
     // The number of batches: no more can come.
     Changed {
-        born: true,
+        runs: 1,
         at: 16_412,
         bytes: b"\xff\xff\xff\xff",
         words: "serve",
@@ -133,20 +251,15 @@ const CHANGED: [Changed; 8] = [
 ];
 
 /// The file before its change.
-fn before(rt: &HostRuntime, born: bool) -> Result<MemSite, AllocError> {
-    let alloc = rt.alloc();
-    let content = if born {
-        new_store(rt)?
-    } else {
-        Bytes::new(alloc)
-    };
-    Ok(MemSite::new(content, Numbers::new(alloc), None))
+fn before(rt: &HostRuntime, runs: usize) -> Result<MemSite, AllocError> {
+    let content = made(rt, runs)?;
+    Ok(MemSite::new(content, Numbers::new(rt.alloc()), None))
 }
 
 /// Whether a run over a changed file comes to what its row says.
 fn comes_to(rt: &HostRuntime, row: &Changed) -> Result<bool, AllocError> {
     let alloc = rt.alloc();
-    let mut site = before(rt, row.born)?;
+    let mut site = before(rt, row.runs)?;
     let made = row.at < 100_000 && site.write_at(row.at, row.bytes).is_ok();
     let input = bytes_of(alloc, row.input.as_bytes())?;
     let (status, said) = run_on_file(rt, row.words, input, site)?;
@@ -184,7 +297,7 @@ fn long_lines(rt: HostRuntime) -> Result<(), Fail> {
         (4096, true, "refused 11 at 1\n"),
         (4097, true, "refused 18\n"),
     ] {
-        let site = before(&rt, true)?;
+        let site = before(&rt, 1)?;
         let input = long_line(rt.alloc(), letters, in_batch)?;
         let end = run_on_file(&rt, "serve", input, site)?;
         assert_eq!(rt; end.0, Status::Refused, "{letters} {in_batch}");
@@ -200,7 +313,7 @@ const LINE_FEEDS: &[u8; 64] =
 /// store.
 fn feed(rt: &HostRuntime, front: &[u8], more: &[u8]) -> Result<(Status, Bytes), AllocError> {
     let alloc = rt.alloc();
-    let site = before(rt, true)?;
+    let site = before(rt, 1)?;
     let mut input = bytes_of(alloc, front)?;
     input.append(repeated(alloc, LINE_FEEDS, 1_048_576)?.as_slice())?;
     input.append(more)?;

@@ -57,8 +57,7 @@ turns-preserved g c = record {
       let left' = g.S.Source.left c.next_request.new.source in
       let reads = c.turns.invariant.reads s in
       let source = reads.1.same_source in
-      let asked = some-asked c.in-Ok-Some.field-0 c.in-Ok-Some.asked c.turns.reader c.next_request.new.reader left left' c.in-Ok-Some.field-0-is (c.in-Ok-Some.ensures.told s source) in
-      (
+      let asked = some-asked c.in-Ok-Some.field-0 c.in-Ok-Some.asked c.turns.reader c.next_request.new.reader left left' c.in-Ok-Some.field-0-is (c.in-Ok-Some.ensures.told s source) in (
         reads.0 ++ asked.0 ∷ [],
         reads-on input reads.0 c.turns.reader c.next_request.new.reader left left' asked.0 reads.1 asked.2 (c.next_request.ensures.same_source s source) c.next_request.ensures.ended,
       );
