@@ -1,12 +1,10 @@
 -- What holds of each routing object in the pages holds of each in the list of their nodes.
-use Rattle.std.proofs.Common.{◌≡◌, ℕ, zero, suc, ◌-◌, ◌/◌, ◌%◌, List, [], ◌∷◌, ◌++◌, map, get_or}
+use Rattle.std.proofs.Common.{ℕ, zero, suc, ◌-◌, ◌/◌, ◌%◌, List, [], ◌∷◌, ◌++◌, map, get_or}
 use Rattle.std.specs.Prelude.{Bool, IsTrue, nat_eq, nat_le}
 use Rattle.std.specs.List.{AllByRecursion}
 use Rattle.std.proofs.lemmas.Bool.{cond_both}
 use Rattle.vec_record.specs.Vectors.{IsVector}
 use Rattle.mtree_node.specs.Preorder.{InnerRow}
-use Rattle.mtree_node.specs.declared.shape.Shape.{Shape}
-use Rattle.mtree_node.specs.declared.shape.Shape.TheVariants as shape
 use Rattle.node_refs.specs.declared.pages.NodePage.{NodePage}
 use Rattle.node_refs.specs.declared.pages.NodePage.TheVariants as page
 use Rattle.node_refs.specs.declared.listing.Listed.{Listed}

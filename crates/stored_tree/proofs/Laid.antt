@@ -1,5 +1,5 @@
 -- A tree that was laid in pages is read as that tree again.
-use Rattle.std.proofs.Common.{◌≡◌, ℕ, zero, suc, ◌<◌, List, [], ◌∷◌, get_or, map, Option, Some, None, Ok, refl, sym, ap, subst, ◌∙◌, arith}
+use Rattle.std.proofs.Common.{◌≡◌, ℕ, zero, suc, ◌<◌, List, [], ◌∷◌, get_or, map, Option, Some, None, Ok, refl, sym, ap, ◌∙◌, arith}
 use Rattle.std.specs.Prelude.{true, false}
 use Rattle.std.specs.List.{AllByRecursion, AllZip}
 use Rattle.std.specs.Option.{option_map}
@@ -7,23 +7,20 @@ use Rattle.std.specs.Ordering.{nat_cmp}
 use Rattle.std.specs.FinMap.{from_entries}
 use Rattle.vec_record.specs.Held.{Rows}
 use Rattle.mtree_node.specs.declared.node.Node.{Node}
-use Rattle.mtree_node.specs.declared.shape.Shape.{Shape}
 use Rattle.mtree_node.specs.Preorder.{size, preorder, retagged}
 use Rattle.mtree_node.specs.Tree.{records, record_of, IsTree}
 use Rattle.mtree_node.specs.Walk.{Builds, walk, start}
 use Rattle.mtree_node.proofs.Complete.{trees_come_back}
 use Rattle.mtree_node.proofs.Tags.{retagged_leaves, tags_are_free}
-use Rattle.mtree_index.specs.Plain.{PlainTree}
 use Rattle.mtree_index.specs.Tree.{records_of, IsRoot}
 use Rattle.node_refs.specs.declared.pages.NodePage.{NodePage}
 use Rattle.node_refs.specs.declared.listing.Listed.{Listed}
 use Rattle.node_refs.specs.Pages.{is_in, used_refs}
-use Rattle.node_refs.specs.Listing.{listed}
-use Rattle.node_refs.specs.Faults.{fill_of, first_of, first_used}
+use Rattle.node_refs.specs.Faults.{fill_of, first_of}
 use Rattle.node_refs.specs.Laws.{AreLaid, Stands, laid}
 use Rattle.node_refs.proofs.Comes.{trees_are_listed, roots_are_used}
 use Rattle.stored_tree.specs.Laws.{LaidTreesAreRead}
-use Rattle.stored_tree.specs.Reading.{tree_with, tree_below, tree_in, empty_unless}
+use Rattle.stored_tree.specs.Reading.{tree_with, tree_in, empty_unless}
 use Rattle.stored_tree.specs.Shapes.{shapes_at}
 use Rattle.stored_tree.proofs.Read.{ended, ended_is, at_zero, at_root}
 

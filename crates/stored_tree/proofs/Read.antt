@@ -1,7 +1,5 @@
 -- What a walk over listed nodes means for the tree that is read.
-use Rattle.std.proofs.Common.{◌≡◌, ◌↔◌, ℕ, zero, suc, ◌<◌, List, [], length, get_or, slice_index, Option, Some, None, Ok, Err, refl, sym, ap, subst, ◌∙◌, arith}
-use Rattle.std.specs.List.{AllByRecursion, AllZip}
-use Rattle.std.specs.Option.{option_map}
+use Rattle.std.proofs.Common.{◌≡◌, ◌↔◌, ℕ, zero, suc, ◌<◌, List, [], Option, Some, None, Ok, Err, refl, sym, ap, ◌∙◌, arith}
 use Rattle.std.specs.Ordering.{nat_cmp}
 use Rattle.std.specs.FinMap as finite
 use Rattle.std.specs.Prelude.{true, false, nat_eq, Result, IfOk}
@@ -11,7 +9,6 @@ use Rattle.mtree_node.specs.declared.node.Node.{Node}
 use Rattle.mtree_node.specs.declared.shape.Shape.{Shape}
 use Rattle.mtree_node.specs.declared.shape.BadPlace.{BadPlace}
 use Rattle.mtree_node.specs.Preorder.{size, preorder}
-use Rattle.mtree_node.specs.Tree.{records}
 use Rattle.mtree_node.specs.Walk.{Standing, Walked, Builds, walk, start, failing, first_failing, IsTreeOf}
 use Rattle.mtree_node.proofs.Complete.{trees_come_back}
 use Rattle.mtree_index.specs.Plain.{PlainTree}

@@ -1,9 +1,9 @@
 -- The nodes of a tree after a save: each stands at its reference, and nothing else stands anywhere.
-use Rattle.std.proofs.Common.{◌≡◌, ◌≢◌, ◌⊎◌, inl, inr, ⊎_elim, ℕ, zero, suc, ◌+◌, ◌-◌, ◌*◌, ◌/◌, ◌%◌, ◌<◌, ◌≤◌, Bool, true, false, List, [], ◌∷◌, length, map, get_or, Option, Some, None, refl, sym, ◌∙◌, ap, subst, arith}
-use Rattle.std.specs.Prelude.{◌==◌, nat_le, nat_eq, not}
-use Rattle.std.specs.List.{slice_get, AllByRecursion, AllZip}
+use Rattle.std.proofs.Common.{◌≡◌, ◌≢◌, inl, inr, ℕ, zero, suc, ◌+◌, ◌-◌, ◌/◌, ◌%◌, ◌<◌, Bool, true, false, List, [], ◌∷◌, length, map, get_or, Option, Some, None, refl, sym, ◌∙◌, ap, subst, arith}
+use Rattle.std.specs.Prelude.{◌==◌, nat_le, nat_eq}
+use Rattle.std.specs.List.{slice_get}
 use Rattle.std.specs.Option.{option_map}
-use Rattle.std.proofs.lemmas.Bool.{cases_Bool, cases_eq, cond-true, cond-false, eq-eqb, ne_eqb, le-leb}
+use Rattle.std.proofs.lemmas.Bool.{cases_eq, cond-true, cond-false, eq-eqb, ne_eqb, le-leb}
 use Rattle.std.proofs.lemmas.List.{get_or-map, length-map}
 use Rattle.std.proofs.lemmas.Option.{slice_get-map, slice_get_within}
 use Rattle.mtree_node.specs.declared.shape.Shape.{Shape}
@@ -11,11 +11,11 @@ use Rattle.mtree_node.specs.declared.shape.Shape.TheVariants as shape
 use Rattle.mtree_node.specs.Preorder.{LeafRow, InnerRow}
 use Rattle.node_refs.specs.declared.pages.NodePage.{NodePage}
 use Rattle.node_refs.specs.declared.pages.NodePage.TheVariants as page
-use Rattle.node_refs.specs.Pages.{page_at, leaf_in, inner_in, leaf_at, inner_at, is_in, used_refs}
+use Rattle.node_refs.specs.Pages.{page_at, leaf_in, inner_in, leaf_at, inner_at, is_in}
 use Rattle.node_refs.specs.Laws.{referring, Stands, AreLaid}
 use Rattle.node_places.specs.declared.nodes.Tagged.{Tagged}
 use Rattle.node_places.specs.Slots.{has, AreApart}
-use Rattle.node_places.specs.Nodes.{refs_from, leaf_refs, inner_refs, is_of, numbers_from}
+use Rattle.node_places.specs.Nodes.{leaf_refs, inner_refs, is_of, numbers_from}
 use Rattle.node_places.specs.Laws.{AreEnough, HaveRefs, StandsAt}
 use Rattle.node_places.proofs.Keeping.{numbers_more, numbers_here}
 use Rattle.tree_layout.specs.Layouts.{tagged, node_at, leaf_rows, inner_rows, referred, leaf_for, inner_for, pages_with}

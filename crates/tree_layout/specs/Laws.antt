@@ -1,5 +1,5 @@
 -- Laws over the definitions.
-use Rattle.std.specs.Prelude.{◌≡◌, ◌≢◌, ◌⊎◌, ℕ, ◌+◌, ◌*◌, ◌/◌, ◌<◌, ◌≤◌, ◌^◌, max, Bool, true, false, not, List, length, map, count_by}
+use Rattle.std.specs.Prelude.{◌≡◌, ◌≢◌, ◌⊎◌, ℕ, ◌+◌, ◌*◌, ◌/◌, ◌<◌, ◌≤◌, max, not, List, length, map, count_by}
 use Rattle.std.specs.List.{AllByRecursion}
 use Rattle.mtree_node.specs.declared.shape.Shape.{Shape}
 use Rattle.mtree_node.specs.declared.shape.Shape.TheVariants as shape

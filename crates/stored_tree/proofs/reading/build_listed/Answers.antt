@@ -1,8 +1,6 @@
-use Rattle.std.proofs.Common.{◌≡◌, ℕ, Err, subst, sym, ap, ◌∙◌}
-use Rattle.std.proofs.Common.{rules}
+use Rattle.std.proofs.Common.{ℕ, Err, subst, sym, ap, ◌∙◌}
 use Rattle.tree_objects.proofs.Shapes.{built_has_all}
 use Rattle.node_refs.specs.Faults.{fault_at}
-use Rattle.mtree_index.specs.Plain.{PlainTree}
 use Rattle.tree_objects.specs.Laws.{Passes}
 use Rattle.tree_objects.specs.Objects.{RootHasAll}
 use Rattle.stored_tree.proofs.Read.{read_is, fault_is}

@@ -1,5 +1,5 @@
-use Rattle.std.proofs.Common.{◌≡◌, ◌<◌, ℕ, Some, Ok, Err, sym, ap, subst, ◌∙◌, arith}
-use Rattle.std.specs.Prelude.{MatchResult, IfOk}
+use Rattle.std.proofs.Common.{◌≡◌, ◌<◌, ℕ, Some, Ok, sym, ap, subst, ◌∙◌, arith}
+use Rattle.std.specs.Prelude.{MatchResult}
 use Rattle.std.specs.FinMap as finite
 use Rattle.node_refs.specs.declared.listing.Listed.{Listed}
 use Rattle.node_refs.proofs.Built.{listed_can_be_built}
