@@ -11,8 +11,9 @@ use Rattle.session_desk.specs.Statuses.{is_fault}
 use Rattle.session_desk.specs.Session.{acked, text_of, rows_after_all, whole_requests}
 use Rattle.session_desk.specs.Courses.{session, course_text, values_on, answers_over, accepted}
 
--- What is assumed of the content at the start: where it opens, each count, anchor and label that it has is the one that is due to its
--- record. Every sound content has it, and so has every content that doesn't open.
+-- What is assumed of the content at the start: where it opens, each count, anchor and label that it
+-- has is the one that is due to its record. Every sound content has it, and so has every content
+-- that doesn't open.
 abbrev pub HasDueLines : List ℕ → Type 0
 HasDueLines c = refusal_on c ≡ None → AreDueOn c
 

@@ -41,7 +41,8 @@ refusal_course fault = course_by (Some fault) [] [] []
 abbrev pub AreOpened : OpenFault → SiteState → SiteState → Type 0
 AreOpened fault a b = fault ≢ SiteFault → (c : List ℕ) → b.may_leave c → opening c ≡ opening a.content
 
--- a warehouse that was loaded from pages, whose clusters stand exactly where the lines of the pages are those that are due
+-- a warehouse that was loaded from pages, whose clusters stand exactly where the lines of the pages
+-- are those that are due
 pub record IsLoaded (pages : List (List ℕ)) (w : State) : Type 0 where
   pub loads : LoadsAs pages w.values w.rows w.batches
   pub pages_are : w.pages ≡ pages

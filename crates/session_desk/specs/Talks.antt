@@ -51,8 +51,8 @@ desk_after d (q ∷ more) = desk_after (desk_behind d (answer_on d q)) more
 abbrev pub IsStoreOf : Desk → List ℕ → Type 0
 IsStoreOf d c = IsStore d.values d.state.rows d.state.batches c
 
--- a warehouse that can answer: it has a store and hasn't failed, and where its clusters stand for its records, its pages load as
--- what it is, with the lines that are due
+-- a warehouse that can answer: it has a store and hasn't failed, and where its clusters stand for
+-- its records, its pages load as what it is, with the lines that are due
 pub record IsServing (w : State) : Type 0 where
   pub stored : w.stored ≡ true
   pub whole : w.failed ≡ false
