@@ -141,13 +141,13 @@ kinds_long [] are = refl
 kinds_long (kind ∷ kinds) are =
     let rest = kinds_long kinds are.1 in
     elim are.0 [
-  | inl one ↦ subst (λ (k : ℕ). length (k ∷ kinds) ≡ count_of 1 (k ∷ kinds) + (count_of 2 (k ∷ kinds) + count_of 3 (k ∷ kinds))) (sym one)
-      (omega (arith, rest, counted 1 1 kinds, counted 2 1 kinds, counted 3 1 kinds))
-  | inr (inl two) ↦ subst (λ (k : ℕ). length (k ∷ kinds) ≡ count_of 1 (k ∷ kinds) + (count_of 2 (k ∷ kinds) + count_of 3 (k ∷ kinds))) (sym two)
-      (omega (arith, rest, counted 1 2 kinds, counted 2 2 kinds, counted 3 2 kinds))
-  | inr (inr three) ↦ subst (λ (k : ℕ). length (k ∷ kinds) ≡ count_of 1 (k ∷ kinds) + (count_of 2 (k ∷ kinds) + count_of 3 (k ∷ kinds))) (sym three)
-      (omega (arith, rest, counted 1 3 kinds, counted 2 3 kinds, counted 3 3 kinds))
-]
+      | inl one ↦ subst (λ (k : ℕ). length (k ∷ kinds) ≡ count_of 1 (k ∷ kinds) + (count_of 2 (k ∷ kinds) + count_of 3 (k ∷ kinds))) (sym one)
+          (omega (arith, rest, counted 1 1 kinds, counted 2 1 kinds, counted 3 1 kinds))
+      | inr (inl two) ↦ subst (λ (k : ℕ). length (k ∷ kinds) ≡ count_of 1 (k ∷ kinds) + (count_of 2 (k ∷ kinds) + count_of 3 (k ∷ kinds))) (sym two)
+          (omega (arith, rest, counted 1 2 kinds, counted 2 2 kinds, counted 3 2 kinds))
+      | inr (inr three) ↦ subst (λ (k : ℕ). length (k ∷ kinds) ≡ count_of 1 (k ∷ kinds) + (count_of 2 (k ∷ kinds) + count_of 3 (k ∷ kinds))) (sym three)
+          (omega (arith, rest, counted 1 3 kinds, counted 2 3 kinds, counted 3 3 kinds))
+    ]
 
 pub cap_small : (v : Values) → IsTrue (are_within v.metric v.dim v.eps v.minpts v.cap) → v.cap ≤ 200000
 cap_small v within =
