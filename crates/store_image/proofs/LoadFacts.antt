@@ -119,12 +119,15 @@ pub nodes_lawful : (v : Values) (bodies : List Body) → AllByRecursion (IsBody 
 nodes_lawful v [] all = tt
 nodes_lawful v (body.Slots slots ∷ bodies) all = (record { slots = tt; objects = tt; vectors = tt; passes = tt }, nodes_lawful v bodies all.1)
 nodes_lawful v (body.Leaves leaves ∷ bodies) all = (record { slots = omega (arith, all.0.count); objects = tt; vectors = tt; passes = tt }, nodes_lawful v bodies all.1)
-nodes_lawful v (body.Inner rows ∷ bodies) all = (record {
-      slots = tt;
-      objects = all_weaker (IsInnerRow v) (λ (row : InnerRow). (length row.3 ≡ width_of v.metric v.dim) × (row.2 ≤ greatest_of v.metric (width_of v.metric v.dim))) (λ row is. (is.object.len, is.radius)) rows all.0.each;
-      vectors = all_weaker (IsInnerRow v) (λ (row : InnerRow). IsVector (width_of v.metric v.dim) row.3) (λ row is. is.object) rows all.0.each;
-      passes = all_weaker (IsInnerRow v) (λ (row : InnerRow). IsTrue (is_spelled v.metric v.dim row.3)) (λ row is. is.spelled) rows all.0.each;
-    }, nodes_lawful v bodies all.1)
+nodes_lawful v (body.Inner rows ∷ bodies) all = (
+  record {
+    slots = tt;
+    objects = all_weaker (IsInnerRow v) (λ (row : InnerRow). (length row.3 ≡ width_of v.metric v.dim) × (row.2 ≤ greatest_of v.metric (width_of v.metric v.dim))) (λ row is. (is.object.len, is.radius)) rows all.0.each;
+    vectors = all_weaker (IsInnerRow v) (λ (row : InnerRow). IsVector (width_of v.metric v.dim) row.3) (λ row is. is.object) rows all.0.each;
+    passes = all_weaker (IsInnerRow v) (λ (row : InnerRow). IsTrue (is_spelled v.metric v.dim row.3)) (λ row is. is.spelled) rows all.0.each;
+  },
+  nodes_lawful v bodies all.1,
+)
 
 pub have_slots : (v : Values) (pages : List NodePage) → AllByRecursion (IsNodePage v) pages → AllByRecursion HasSlots pages
 have_slots v pages all = all_weaker (IsNodePage v) HasSlots (λ p is. is.slots) pages all

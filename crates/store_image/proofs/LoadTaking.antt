@@ -103,8 +103,8 @@ module _ (v : Values) (all rest : Rows) (numbers : List ℕ) (lines : List Line)
           tied = record {
             lawful = lines_more v.minpts lines (line_with s) t.tied.lawful (slot_line v s lawful) line_away;
             count = maps.len-insert nat_cmp_total records.vectors s.number s.vector
-            ∙ ap (λ (b : Bool). cond b (maps.len records.vectors) (maps.len records.vectors + 1)) (ap is_some none)
-            ∙ ap (λ (n : ℕ). n + 1) t.tied.count ∙ sym (length-append lines (line_with s ∷ []));
+                ∙ ap (λ (b : Bool). cond b (maps.len records.vectors) (maps.len records.vectors + 1)) (ap is_some none)
+                ∙ ap (λ (n : ℕ). n + 1) t.tied.count ∙ sym (length-append lines (line_with s ∷ []));
             tied = λ q. ap (λ (m : held.Rows). is_some (maps.get m q)) (sym more) ∙ tied_of (t.done ++ Some s ∷ []) q ∙ ap (λ (l : List Line). has (map lines_in.number_of l) q) (sym lines_more_are);
             stand = all_inserted (CanStand v) records.vectors s.number s.vector (record { number = lawful.number; vector = lawful.vector; spelled = lawful.spelled }) t.tied.stand;
           };

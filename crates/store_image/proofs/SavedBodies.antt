@@ -102,52 +102,52 @@ module _ (v : Values) where
   bodies_lawful [] slots leaves inners are = tt
   bodies_lawful (kind ∷ kinds) slots leaves inners are =
       let size = size_on v in elim are.kinds_are.0 [
-    | inl one ↦
-        let a : AreParts v (1 ∷ kinds) slots leaves inners = subst (λ (k : ℕ). AreParts v (k ∷ kinds) slots leaves inners) one are in
-        let long : length slots ≡ size * (1 + count_of 1 kinds) = a.slots_long ∙ ap (λ (n : ℕ). size * n) (counted 1 1 kinds) in
-        let first : IsBody v (body.Slots (take size slots)) = record {
-          count = length-take-le size slots (omega (arith, long));
-          each = each_taken (IsRow v) size slots a.slots_are;
-        } in
-        let rest : AreParts v kinds (drop size slots) leaves inners = record {
-          kinds_are = a.kinds_are.1;
-          slots_long = omega (arith, length-drop size slots, long);
-          leaves_long = a.leaves_long ∙ ap (λ (n : ℕ). 63 * n) (counted 2 1 kinds ∙ zero-add (count_of 2 kinds));
-          inners_long = a.inners_long ∙ counted 3 1 kinds ∙ zero-add (count_of 3 kinds);
-          slots_are = each_left (IsRow v) size slots a.slots_are;
-          leaves_are = a.leaves_are;
-          inners_are = a.inners_are;
-        } in
-        subst (λ (k : ℕ). AllByRecursion (IsBody v) (bodies_with size (k ∷ kinds) slots leaves inners)) (sym one) (first, bodies_lawful kinds (drop size slots) leaves inners rest)
-    | inr (inl two) ↦
-        let a : AreParts v (2 ∷ kinds) slots leaves inners = subst (λ (k : ℕ). AreParts v (k ∷ kinds) slots leaves inners) two are in
-        let long : length leaves ≡ 63 * (1 + count_of 2 kinds) = a.leaves_long ∙ ap (λ (n : ℕ). 63 * n) (counted 2 2 kinds) in
-        let first : IsBody v (body.Leaves (take 63 leaves)) = record {
-          count = length-take-le 63 leaves (omega (arith, long));
-          each = each_taken IsLeaf 63 leaves a.leaves_are;
-        } in
-        let rest : AreParts v kinds slots (drop 63 leaves) inners = record {
-          kinds_are = a.kinds_are.1;
-          slots_long = a.slots_long ∙ ap (λ (n : ℕ). size * n) (counted 1 2 kinds ∙ zero-add (count_of 1 kinds));
-          leaves_long = omega (arith, length-drop 63 leaves, long);
-          inners_long = a.inners_long ∙ counted 3 2 kinds ∙ zero-add (count_of 3 kinds);
-          slots_are = a.slots_are;
-          leaves_are = each_left IsLeaf 63 leaves a.leaves_are;
-          inners_are = a.inners_are;
-        } in
-        subst (λ (k : ℕ). AllByRecursion (IsBody v) (bodies_with size (k ∷ kinds) slots leaves inners)) (sym two) (first, bodies_lawful kinds slots (drop 63 leaves) inners rest)
-    | inr (inr three) ↦
-        let a : AreParts v (3 ∷ kinds) slots leaves inners = subst (λ (k : ℕ). AreParts v (k ∷ kinds) slots leaves inners) three are in
-        let long : length inners ≡ 1 + count_of 3 kinds = a.inners_long ∙ counted 3 3 kinds in
-        let first : IsBody v (body.Inner (get_or inners 0 [])) = get_all (AreInner v) inners 0 [] a.inners_are (omega (arith, long)) in
-        let rest : AreParts v kinds slots leaves (drop 1 inners) = record {
-          kinds_are = a.kinds_are.1;
-          slots_long = a.slots_long ∙ ap (λ (n : ℕ). size * n) (counted 1 3 kinds ∙ zero-add (count_of 1 kinds));
-          leaves_long = a.leaves_long ∙ ap (λ (n : ℕ). 63 * n) (counted 2 3 kinds ∙ zero-add (count_of 2 kinds));
-          inners_long = omega (arith, length-drop 1 inners, long);
-          slots_are = a.slots_are;
-          leaves_are = a.leaves_are;
-          inners_are = each_left (AreInner v) 1 inners a.inners_are;
-        } in
-        subst (λ (k : ℕ). AllByRecursion (IsBody v) (bodies_with size (k ∷ kinds) slots leaves inners)) (sym three) (first, bodies_lawful kinds slots leaves (drop 1 inners) rest)
-  ]
+        | inl one ↦
+            let a : AreParts v (1 ∷ kinds) slots leaves inners = subst (λ (k : ℕ). AreParts v (k ∷ kinds) slots leaves inners) one are in
+            let long : length slots ≡ size * (1 + count_of 1 kinds) = a.slots_long ∙ ap (λ (n : ℕ). size * n) (counted 1 1 kinds) in
+            let first : IsBody v (body.Slots (take size slots)) = record {
+              count = length-take-le size slots (omega (arith, long));
+              each = each_taken (IsRow v) size slots a.slots_are;
+            } in
+            let rest : AreParts v kinds (drop size slots) leaves inners = record {
+              kinds_are = a.kinds_are.1;
+              slots_long = omega (arith, length-drop size slots, long);
+              leaves_long = a.leaves_long ∙ ap (λ (n : ℕ). 63 * n) (counted 2 1 kinds ∙ zero-add (count_of 2 kinds));
+              inners_long = a.inners_long ∙ counted 3 1 kinds ∙ zero-add (count_of 3 kinds);
+              slots_are = each_left (IsRow v) size slots a.slots_are;
+              leaves_are = a.leaves_are;
+              inners_are = a.inners_are;
+            } in
+            subst (λ (k : ℕ). AllByRecursion (IsBody v) (bodies_with size (k ∷ kinds) slots leaves inners)) (sym one) (first, bodies_lawful kinds (drop size slots) leaves inners rest)
+        | inr (inl two) ↦
+            let a : AreParts v (2 ∷ kinds) slots leaves inners = subst (λ (k : ℕ). AreParts v (k ∷ kinds) slots leaves inners) two are in
+            let long : length leaves ≡ 63 * (1 + count_of 2 kinds) = a.leaves_long ∙ ap (λ (n : ℕ). 63 * n) (counted 2 2 kinds) in
+            let first : IsBody v (body.Leaves (take 63 leaves)) = record {
+              count = length-take-le 63 leaves (omega (arith, long));
+              each = each_taken IsLeaf 63 leaves a.leaves_are;
+            } in
+            let rest : AreParts v kinds slots (drop 63 leaves) inners = record {
+              kinds_are = a.kinds_are.1;
+              slots_long = a.slots_long ∙ ap (λ (n : ℕ). size * n) (counted 1 2 kinds ∙ zero-add (count_of 1 kinds));
+              leaves_long = omega (arith, length-drop 63 leaves, long);
+              inners_long = a.inners_long ∙ counted 3 2 kinds ∙ zero-add (count_of 3 kinds);
+              slots_are = a.slots_are;
+              leaves_are = each_left IsLeaf 63 leaves a.leaves_are;
+              inners_are = a.inners_are;
+            } in
+            subst (λ (k : ℕ). AllByRecursion (IsBody v) (bodies_with size (k ∷ kinds) slots leaves inners)) (sym two) (first, bodies_lawful kinds slots (drop 63 leaves) inners rest)
+        | inr (inr three) ↦
+            let a : AreParts v (3 ∷ kinds) slots leaves inners = subst (λ (k : ℕ). AreParts v (k ∷ kinds) slots leaves inners) three are in
+            let long : length inners ≡ 1 + count_of 3 kinds = a.inners_long ∙ counted 3 3 kinds in
+            let first : IsBody v (body.Inner (get_or inners 0 [])) = get_all (AreInner v) inners 0 [] a.inners_are (omega (arith, long)) in
+            let rest : AreParts v kinds slots leaves (drop 1 inners) = record {
+              kinds_are = a.kinds_are.1;
+              slots_long = a.slots_long ∙ ap (λ (n : ℕ). size * n) (counted 1 3 kinds ∙ zero-add (count_of 1 kinds));
+              leaves_long = a.leaves_long ∙ ap (λ (n : ℕ). 63 * n) (counted 2 3 kinds ∙ zero-add (count_of 2 kinds));
+              inners_long = omega (arith, length-drop 1 inners, long);
+              slots_are = a.slots_are;
+              leaves_are = a.leaves_are;
+              inners_are = each_left (AreInner v) 1 inners a.inners_are;
+            } in
+            subst (λ (k : ℕ). AllByRecursion (IsBody v) (bodies_with size (k ∷ kinds) slots leaves inners)) (sym three) (first, bodies_lawful kinds slots leaves (drop 1 inners) rest)
+      ]

@@ -28,12 +28,7 @@ pub(crate) struct Contents {
 }
 
 /// A body page.
-fn read_page(
-    alloc: Global,
-    params: &Params,
-    number: u32,
-    page: &Page,
-) -> Result<Body, StoreFault>
+fn read_page(alloc: Global, params: &Params, number: u32, page: &Page) -> Result<Body, StoreFault>
     ensures body { MatchResult result (λ b. body_of (values_of params.now) page.now ≡ Ok b)
         (λ e. Fails e (in_page number (body_of (values_of params.now) page.now))) }
     ensures lawful { IfOk result (IsBody (values_of params.now)) }

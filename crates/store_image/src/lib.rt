@@ -8,8 +8,8 @@
 
 mod contents;
 pub mod fault;
-mod finding;
 mod filling;
+mod finding;
 pub mod laws;
 mod laws_saved;
 mod layout;

@@ -42,7 +42,12 @@ fn loose_fault(params: &Params, parts: &Sorted, loose: Loose) -> StoreFault
         Loose::Anchor(place) => (place, 8),
         Loose::Label(place) => (place, 12),
     };
-    slot_fault(params, &parts.kinds, used_slot(&parts.numbers, place), field)
+    slot_fault(
+        params,
+        &parts.kinds,
+        used_slot(&parts.numbers, place),
+        field,
+    )
 }
 
 /// The books of the lines, or the fault of the first that is loose.
@@ -138,13 +143,7 @@ fn take_state<M: Metric, L: Ledger>(
     Ok(Loaded {
         head,
         records: parts.records,
-        clusters: Clusters::from_parts(
-            alloc,
-            head.params.eps,
-            tree,
-            books.counts,
-            books.labels,
-        ),
+        clusters: Clusters::from_parts(alloc, head.params.eps, tree, books.counts, books.labels),
         places: Places {
             kinds: parts.kinds,
             numbers: parts.numbers,

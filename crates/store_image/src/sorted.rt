@@ -95,12 +95,7 @@ fn push_line(lines: &mut Vec<Line>, line: Line) -> Result<(), AllocError>
 }
 
 /// Takes a used slot.
-fn take_used(
-    params: &Params,
-    kinds: &[u8],
-    slot: Slot,
-    taken: &mut Taken,
-) -> Result<(), StoreFault>
+fn take_used(params: &Params, kinds: &[u8], slot: Slot, taken: &mut Taken) -> Result<(), StoreFault>
     requires pages { length kinds.now + 2 < 2 ^ 32 }
     requires slot { IsSlot (values_of params.now) slot }
     requires width { taken.old.records.width ≡ width_of params.now.metric params.now.dim }

@@ -50,4 +50,4 @@ returns-in-Err-Damaged-clause-tree g c =
     (g.met.M.Metric.defined w a b c.width.ensures.width is_a is_b).0 ∙ ap (λ k. distance_of k a b) (sym c.requires.kind) in
     tree_at (plain c.args.head.now) w c.args.parts.now.nodes.items c.args.parts.now.records.vectors c.requires.parts.width
     ∙ ap (λ l. in_tree (tree_in (distance_of v.metric) w c.args.head.now.height c.args.head.now.root l c.args.parts.now.records.vectors)) (sym c.deref.ensures.value)
-    ∙ ap in_tree (c.in-Err-Damaged.ensures.tree (distance_of v.metric) alike)
+    ∙ ap in_tree (rw c.in-Err-Damaged.field-0-is at (c.in-Err-Damaged.ensures-1.tree (distance_of v.metric) alike))

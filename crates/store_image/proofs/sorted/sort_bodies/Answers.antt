@@ -39,8 +39,8 @@ returns-in_err-taken c =
     let e = c.in_err-taken.field-0.0 in
     let p = err_from_is_err_and c.from_residual-in_err-taken.result c.from_residual-in_err-taken.ensures.1 in
     rw (p.1, p.2) (repeats_fail v bodies e few
-    (subst (λ (ks : List ℕ). Fails e (repeats v ks (map number_of (all_slots bodies)))) c.in_ok-contents.ensures.kinds
-    (subst (λ (s : Rows). Fails e (repeats v c.in_ok-contents.contents.kinds.items (map number_of s))) c.in_ok-contents.ensures.slots c.in_err-taken.ensures)))
+    (subst (λ (ks : List ℕ). Fails e (repeats v ks (map number_of (all_slots bodies)))) (c.deref-2.ensures.value ∙ c.in_ok-contents.ensures.kinds)
+    (subst (λ (s : Rows). Fails e (repeats v c.deref-2.result.now (map number_of s))) c.in_ok-contents.ensures.slots c.in_err-taken.ensures)))
 
 pub returns : goal.returns
 returns c =

@@ -15,5 +15,5 @@ pub returns-in_ok-push_number-in-None : goal.returns-in_ok-push_number-in-None
 returns-in_ok-push_number-in-None c = λ all rest t.
     let v = values_of c.args.params.now in
     let taken = c.args.taken.now in
-    let pushed : c.push_number.new.numbers.items ≡ taken.numbers.items ++ 0 ∷ [] = c.in_ok-push_number.ensures in
+    let pushed : c.push_number.new.numbers.items ≡ taken.numbers.items ++ 0 ∷ [] = c.in_ok-push_number-in-None.ensures in
     rw pushed (taking_free v all rest taken.numbers.items taken.lines.items taken.records (subst (λ (r : Option Slot). Taking v all (r ∷ rest) taken.numbers.items taken.lines.items taken.records) c.in-None.is t))
