@@ -8,10 +8,12 @@ ghost use Rattle.vec_record.specs.Limits.{width_of};
 ghost use Rattle.vec_record.specs.Spelled.{is_spelled};
 ghost use Rattle.mtree_index.specs.Tree.{contents};
 ghost use Rattle.tree_objects.specs.Laws.{AllPass};
+ghost use Rattle.stored_tree.specs.Reading.{Read, Fails as TreeFails};
 ghost use Rattle.stored_lines.specs.Lines.{first_loose, rows_of, labels_of};
 ghost use Rattle.page_layout.specs.Heads.{Values, IsHead, values_of, plain};
 ghost use Rattle.store_image.specs.Images.{image_with};
-ghost use Rattle.store_image.specs.Loading.{load_of, params_in_pages, count_said, Fails, tree_on};
+ghost use Rattle.store_image.specs.Loading.{load_of, params_in_pages, count_said, Fails, in_tree};
+ghost use Rattle.store_image.specs.Loading.{tree_on};
 ghost use Rattle.store_image.specs.Placing.{CanStand, IsPaged, IsKept};
 ghost use Rattle.store_image.specs.inside.Reads.{tied_at, ties, remaining, AreSorted};
 
@@ -68,6 +70,16 @@ fn books_of(alloc: Global, params: &Params, parts: &Sorted) -> Result<Books, Sto
     }
 }
 
+/// The same fault of a store as of its tree.
+fn tree_fault(fault: TreeFault) -> StoreFault
+    ensures { (read : Read) → TreeFails fault read → Fails result (in_tree read) }
+{
+    match fault {
+        TreeFault::Damaged { page, offset } => StoreFault::Damaged { page, offset },
+        TreeFault::Memory => StoreFault::Memory,
+    }
+}
+
 /// The tree of the pages, over exactly the records.
 fn tree_of<M: Metric, L: Ledger>(
     alloc: Global,
@@ -100,8 +112,7 @@ fn tree_of<M: Metric, L: Ledger>(
     );
     match tree {
         Ok(tree) => Ok(tree),
-        Err(TreeFault::Damaged { page, offset }) => Err(StoreFault::Damaged { page, offset }),
-        Err(TreeFault::Memory) => Err(StoreFault::Memory),
+        Err(fault) => Err(tree_fault(fault)),
     }
 }
 

@@ -9,7 +9,7 @@ use Rattle.stored_tree.specs.Laws.{PageHasVectors, PagePasses}
 use Rattle.stored_tree.specs.Reading.{tree_in}
 use Rattle.node_walks.specs.Alike.{AreAlike}
 use Rattle.page_layout.specs.Heads.{values_of, plain}
-use Rattle.store_image.specs.Loading.{in_tree}
+use Rattle.store_image.specs.Loading.{in_tree, Fails}
 use Rattle.store_image.proofs.LoadFacts.{have_objects, have_vectors, pages_pass, records_pass, zeros, tree_at}
 use Rattle.store_image.proofs.loading.tree_of.Goals as goal
 
@@ -42,12 +42,15 @@ returns-in-Ok-clause-tree g c =
     ∙ ap (λ l. in_tree (tree_in (distance_of v.metric) w c.args.head.now.height c.args.head.now.root l c.args.parts.now.records.vectors)) (sym c.deref.ensures.value)
     ∙ ap in_tree (c.in-Ok.ensures.tree (distance_of v.metric) alike)
 
-pub returns-in-Err-Damaged-clause-tree : goal.returns-in-Err-Damaged-clause-tree
-returns-in-Err-Damaged-clause-tree g c =
+pub returns-in-Err-clause-tree : goal.returns-in-Err-clause-tree
+returns-in-Err-clause-tree g c =
     let v = values_of c.args.head.now.params in
     let w = c.args.parts.now.records.width in
     let alike : AreAlike w g.M.Metric.dist (distance_of v.metric) = λ a b is_a is_b.
     (g.met.M.Metric.defined w a b c.width.ensures.width is_a is_b).0 ∙ ap (λ k. distance_of k a b) (sym c.requires.kind) in
-    tree_at (plain c.args.head.now) w c.args.parts.now.nodes.items c.args.parts.now.records.vectors c.requires.parts.width
-    ∙ ap (λ l. in_tree (tree_in (distance_of v.metric) w c.args.head.now.height c.args.head.now.root l c.args.parts.now.records.vectors)) (sym c.deref.ensures.value)
-    ∙ ap in_tree (rw c.in-Err-Damaged.field-0-is at (c.in-Err-Damaged.ensures-1.tree (distance_of v.metric) alike))
+    let read = tree_in (distance_of v.metric) w c.args.head.now.height c.args.head.now.root c.deref.result.now c.args.parts.now.records.vectors in
+    subst (Fails c.tree_fault.result)
+    (sym
+    (tree_at (plain c.args.head.now) w c.args.parts.now.nodes.items c.args.parts.now.records.vectors c.requires.parts.width
+    ∙ ap (λ l. in_tree (tree_in (distance_of v.metric) w c.args.head.now.height c.args.head.now.root l c.args.parts.now.records.vectors)) (sym c.deref.ensures.value)))
+    (c.tree_fault.ensures read (c.in-Err.ensures.tree (distance_of v.metric) alike))
