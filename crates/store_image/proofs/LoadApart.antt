@@ -1,5 +1,5 @@
 -- Lines of which each is lawful and no two have one number.
-use Rattle.std.proofs.Common.{◌≡◌, inl, inr, ℕ, ◌+◌, ◌≤◌, Bool, true, false, cond, List, [], ◌∷◌, ◌++◌, map, refl, sym, ◌∙◌, ap, subst, arith, IsTrue}
+use Rattle.std.proofs.Common.{◌≡◌, inl, inr, ℕ, ◌+◌, Bool, true, false, cond, List, [], ◌∷◌, ◌++◌, map, refl, sym, ◌∙◌, ap, subst, arith, IsTrue}
 use Rattle.std.specs.Prelude.{◌==◌, count_by, nat_le}
 use Rattle.std.specs.List.{AllByRecursion}
 use Rattle.std.proofs.lemmas.Bool.{cases_eq, eq-eqb, ne_eqb, eqb-true, le-leb, lt-leb, leb-true, or_parts, and_parts}
@@ -9,7 +9,7 @@ use Rattle.stored_lines.specs.Lines.{AreLines, AreOnce, IsLine, number_of}
 use Rattle.stored_lines.proofs.Numbers.{counted, counted_not}
 use Rattle.page_layout.specs.declared.slot.Slot.{Slot}
 use Rattle.page_layout.specs.Heads.{Values}
-use Rattle.page_layout.specs.Slots.{IsSlot, is_anchor, is_label}
+use Rattle.page_layout.specs.Slots.{IsSlot}
 use Rattle.vec_record.specs.Limits.{is_between}
 use Rattle.node_places.specs.Slots.{has}
 use Rattle.store_image.specs.inside.Reads.{line_with}

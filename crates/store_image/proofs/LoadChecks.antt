@@ -21,7 +21,7 @@ use Rattle.store_image.specs.declared.sorted.Sorted.{Sorted}
 use Rattle.store_image.specs.Contents.{kinds_of, all_slots, node_pages}
 use Rattle.store_image.specs.Images.{Image, image_with, number_of, vectors_of, lines_of}
 use Rattle.store_image.specs.Loading.{and_then, unless, head_in_pages, bodies_in, are_few, first_repeated, unless_repeated, unless_loose, tree_on, checked, load_of, Fails}
-use Rattle.store_image.specs.inside.Reads.{repeats, parted, tied_at, ties, ArePartsOf, image_by, remaining}
+use Rattle.store_image.specs.inside.Reads.{repeats, parted, ties, ArePartsOf, image_by, remaining}
 use Rattle.store_image.specs.declared.loaded.Places.{Places}
 use Rattle.store_image.specs.Placing.{ArePagesOf, IsPaged, bodies_if_read, bodies_on}
 use Rattle.store_image.proofs.LoadNumbers.{once_apart}

@@ -1,11 +1,11 @@
 -- What is known of parts of body pages, and of what is kept by them.
-use Rattle.std.proofs.Common.{◌≡◌, inl, inr, ℕ, zero, suc, replicate, ◌+◌, ◌-◌, ◌*◌, ◌/◌, ◌%◌, ◌<◌, ◌≤◌, ◌^◌, ◌&&◌, Bool, true, false, cond, List, [], ◌∷◌, ◌++◌, length, map, Option, Some, None, refl, sym, ◌∙◌, ap, subst, arith, IsTrue}
-use Rattle.std.specs.Prelude.{◌==◌, ◌↔◌, count_by, nat_le, is_some}
-use Rattle.std.specs.List.{AllByRecursion, list_any}
+use Rattle.std.proofs.Common.{◌≡◌, ℕ, zero, suc, replicate, ◌+◌, ◌-◌, ◌*◌, ◌/◌, ◌≤◌, ◌&&◌, Bool, true, false, cond, List, [], ◌∷◌, ◌++◌, length, map, Option, Some, None, refl, sym, ◌∙◌, ap, subst, arith, IsTrue}
+use Rattle.std.specs.Prelude.{◌==◌, ◌↔◌, count_by, nat_le}
+use Rattle.std.specs.List.{AllByRecursion}
 use Rattle.std.specs.Ordering.{nat_cmp, eq_by_cmp}
 use Rattle.std.specs.FinMap as maps
 use Rattle.std.specs.FinMap.{find}
-use Rattle.std.proofs.lemmas.Bool.{cases_eq, eqb-true, eq-eqb, ne_eqb, leb-true, and_parts}
+use Rattle.std.proofs.lemmas.Bool.{eqb-true, eq-eqb, leb-true, and_parts}
 use Rattle.std.proofs.lemmas.List.{length-map, length-replicate}
 use Rattle.std.proofs.lemmas.List.Sums.{sum_by-cons}
 use Rattle.std.proofs.lemmas.Nat.{div-add-mod'}
@@ -15,7 +15,7 @@ use Rattle.vec_record.specs.Distance.{greatest_of, distance_of}
 use Rattle.vec_record.specs.Limits.{are_within, is_between, greatest_dim, width_of}
 use Rattle.vec_record.specs.Spelled.{is_spelled}
 use Rattle.vec_record.specs.Vectors.{IsVector, AreBytes}
-use Rattle.mtree_node.specs.Preorder.{LeafRow, InnerRow}
+use Rattle.mtree_node.specs.Preorder.{InnerRow}
 use Rattle.mtree_index.specs.Plain.{PlainTree}
 use Rattle.mtree_index.specs.Tree.{contents}
 use Rattle.tree_objects.specs.Laws.{AllPass, RowsPass}
@@ -31,10 +31,9 @@ use Rattle.stored_lines.proofs.Numbers.{counted}
 use Rattle.page_layout.specs.declared.body.Body.{Body}
 use Rattle.page_layout.specs.declared.body.Body.TheVariants as body
 use Rattle.page_layout.specs.Bodies.{IsBody}
-use Rattle.page_layout.specs.Heads.{Values, HeadValue, IsHead, is_height}
+use Rattle.page_layout.specs.Heads.{Values, HeadValue, IsHead}
 use Rattle.page_layout.specs.Inner.{IsInnerRow}
 use Rattle.page_layout.specs.Slots.{Rows, IsRow, slots_in_page}
-use Rattle.node_places.specs.Slots.{AreApart}
 use Rattle.store_image.specs.declared.sorted.Sorted.{Sorted}
 use Rattle.store_image.specs.Images.{number_of, vectors_of, lines_of}
 use Rattle.store_image.specs.Contents.{kind_of, node_page_of, kinds_of, count_of_kind, all_slots, node_pages}

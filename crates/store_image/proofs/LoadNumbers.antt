@@ -1,7 +1,7 @@
 -- Lists of numbers in which 0 may stand often and each other number once.
 use Rattle.std.proofs.Common.{◌≡◌, ◌⊎◌, inl, inr, ⊎_elim, ℕ, ◌+◌, Bool, true, false, cond, not, ◌||◌, ◌&&◌, List, [], ◌∷◌, ◌++◌, length, take, get_or, Option, Some, None, refl, sym, ◌∙◌, ap, subst, length-append, append_assoc}
 use Rattle.std.specs.Prelude.{◌==◌}
-use Rattle.std.specs.List.{list_any, find, range_with_len}
+use Rattle.std.specs.List.{find, range_with_len}
 use Rattle.std.proofs.lemmas.Bool.{cases_Bool, cases_eq, eqb-true, eq-eqb, ne_eqb, false≢true, or_parts, or_left, or_right}
 use Rattle.std.proofs.lemmas.List.{get_or_at, take_at, append-nil}
 use Rattle.std.proofs.lemmas.List.Folds.{list_any-append}

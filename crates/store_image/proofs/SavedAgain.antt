@@ -1,5 +1,5 @@
 -- What is saved is read again: its head, its body pages, no more than needed, and each number in one slot.
-use Rattle.std.proofs.Common.{◌≡◌, ℕ, List, [], map, refl, sym, ◌∙◌, ap, subst}
+use Rattle.std.proofs.Common.{◌≡◌, ℕ, List, map, sym, ◌∙◌, ap, subst}
 use Rattle.vec_record.specs.Held as held
 use Rattle.node_places.specs.Slots.{AreApart}
 use Rattle.page_layout.specs.declared.body.Body.{Body}

@@ -1,5 +1,5 @@
 -- Body pages put together from slots, leaves and inner nodes: their kinds, what they hold, and that they are lawful.
-use Rattle.std.proofs.Common.{◌≡◌, inl, inr, ℕ, ◌+◌, ◌-◌, ◌*◌, Bool, cond, List, [], ◌∷◌, ◌++◌, length, map, take, drop, get_or, Option, refl, sym, ◌∙◌, ap, subst, arith, zero-add}
+use Rattle.std.proofs.Common.{◌≡◌, inl, inr, ℕ, ◌+◌, ◌*◌, cond, List, [], ◌∷◌, ◌++◌, length, take, drop, get_or, refl, sym, ◌∙◌, ap, subst, arith, zero-add}
 use Rattle.std.specs.Prelude.{◌==◌}
 use Rattle.std.specs.List.{AllByRecursion}
 use Rattle.std.proofs.lemmas.List.{take-append-drop, length-drop, length-take-le, nil_from_length}
@@ -10,8 +10,7 @@ use Rattle.node_refs.specs.declared.pages.NodePage.{NodePage}
 use Rattle.node_refs.specs.declared.pages.NodePage.TheVariants as page
 use Rattle.node_places.specs.Nodes.{count_of}
 use Rattle.tree_layout.specs.Layouts.{pages_with}
-use Rattle.tree_layout.specs.Laws.{IsKind, AreKinds}
-use Rattle.page_layout.specs.declared.slot.Slot.{Slot}
+use Rattle.tree_layout.specs.Laws.{AreKinds}
 use Rattle.page_layout.specs.declared.body.Body.{Body}
 use Rattle.page_layout.specs.declared.body.Body.TheVariants as body
 use Rattle.page_layout.specs.Heads.{Values}
@@ -19,7 +18,7 @@ use Rattle.page_layout.specs.Slots.{Rows, IsRow}
 use Rattle.page_layout.specs.Leaves.{IsLeaf}
 use Rattle.page_layout.specs.Inner.{AreInner}
 use Rattle.page_layout.specs.Bodies.{IsBody}
-use Rattle.store_image.specs.Contents.{kind_of, kinds_of, all_slots, node_pages}
+use Rattle.store_image.specs.Contents.{kinds_of, all_slots, node_pages}
 use Rattle.store_image.specs.Placing.{size_on, bodies_with}
 
 -- one page of a kind more

@@ -1,7 +1,6 @@
 -- How many slots and pages there are after a save: no more than may be, and as many slots as the pages have.
-use Rattle.std.proofs.Common.{◌≡◌, inl, inr, ℕ, ◌+◌, ◌-◌, ◌*◌, ◌/◌, ◌<◌, ◌≤◌, max, Bool, true, false, cond, ◌&&◌, List, [], ◌∷◌, length, map, drop, Option, Some, None, refl, sym, ◌∙◌, ap, subst, arith, IsTrue}
-use Rattle.std.specs.Prelude.{◌==◌, not, nat_le, count_by}
-use Rattle.std.specs.List.{AllByRecursion}
+use Rattle.std.proofs.Common.{◌≡◌, inl, inr, ℕ, ◌+◌, ◌-◌, ◌*◌, ◌/◌, ◌<◌, ◌≤◌, max, Bool, false, cond, ◌&&◌, List, [], ◌∷◌, length, map, drop, Option, Some, None, refl, sym, ◌∙◌, ap, subst, arith, IsTrue}
+use Rattle.std.specs.Prelude.{not, nat_le, count_by}
 use Rattle.std.specs.FinMap as maps
 use Rattle.std.proofs.lemmas.Bool.{cases_Bool, leb-true, leb-false, le-leb, and_parts}
 use Rattle.std.proofs.lemmas.List.{length-map}
@@ -31,7 +30,6 @@ use Rattle.tree_layout.specs.Layouts.{Laid, tagged, leaf_for, inner_for, referre
 use Rattle.tree_layout.specs.Laws.{AreSized, LayoutsAreSized, leaf_count, inner_count}
 use Rattle.page_layout.specs.declared.body.Body.{Body}
 use Rattle.page_layout.specs.Heads.{Values, HeadValue}
-use Rattle.page_layout.specs.Slots.{Rows}
 use Rattle.store_image.specs.Contents.{kinds_of, count_of_kind, all_slots}
 use Rattle.store_image.specs.Images.{number_of}
 use Rattle.store_image.specs.Loading.{record_limit, leaf_limit, inner_limit, are_few}

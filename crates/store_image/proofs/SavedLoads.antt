@@ -1,5 +1,5 @@
 -- What is saved loads as what it was: its lines say the books again, and its nodes the tree.
-use Rattle.std.proofs.Common.{◌≡◌, ℕ, zero, suc, ◌+◌, ◌/◌, ◌<◌, ◌≤◌, Bool, cond, List, [], ◌∷◌, length, map, drop, get_or, Option, Some, None, Result, Ok, Err, refl, sym, ◌∙◌, ap, subst, arith, IsTrue}
+use Rattle.std.proofs.Common.{◌≡◌, ℕ, zero, suc, ◌+◌, ◌/◌, ◌<◌, Bool, List, [], ◌∷◌, length, map, drop, get_or, Option, Some, None, Result, Ok, refl, sym, ◌∙◌, ap, subst, arith, IsTrue}
 use Rattle.std.specs.Prelude.{◌==◌}
 use Rattle.std.specs.List.{AllByRecursion}
 use Rattle.std.specs.FinMap as maps
@@ -21,7 +21,6 @@ use Rattle.mtree_index.proofs.Places.{all_append}
 use Rattle.node_refs.specs.declared.pages.NodePage.{NodePage}
 use Rattle.node_refs.specs.Laws.{AreLaid}
 use Rattle.node_walks.specs.Alike.{AreAlike, TreesAreAlike}
-use Rattle.node_places.specs.Slots.{AreApart}
 use Rattle.count_book.specs.Counted.{Counted}
 use Rattle.label_book.specs.Labels.{Labels}
 use Rattle.stored_lines.specs.declared.line.Line.{Line}
@@ -35,13 +34,13 @@ use Rattle.stored_tree.specs.Laws.{LaidTreesAreRead}
 use Rattle.tree_layout.specs.Layouts.{Laid, leaf_for, inner_for, referred, pages_of}
 use Rattle.tree_layout.specs.Laws.{HasRows, NodesAreLaid}
 use Rattle.page_layout.specs.declared.body.Body.{Body}
-use Rattle.page_layout.specs.Heads.{Values, HeadValue}
+use Rattle.page_layout.specs.Heads.{HeadValue}
 use Rattle.page_layout.specs.Slots.{Rows}
 use Rattle.store_image.specs.declared.fault.StoreFault.{StoreFault}
 use Rattle.store_image.specs.declared.fault.StoreFault.TheVariants.{Damaged}
 use Rattle.store_image.specs.Contents.{kinds_of, all_slots, node_pages}
 use Rattle.store_image.specs.Images.{Image, image_with, number_of, vectors_of, lines_of, held_in, kept_in}
-use Rattle.store_image.specs.Loading.{and_then, unless, unless_repeated, unless_loose, first_repeated, are_few, in_tree, tree_on, image_of_parts, checked, load_of, head_in_pages, bodies_in}
+use Rattle.store_image.specs.Loading.{and_then, unless, unless_repeated, unless_loose, first_repeated, are_few, in_tree, tree_on, image_of_parts, checked, load_of, bodies_in}
 use Rattle.store_image.specs.Placing.{size_on, slot_for, numbers_after, saved_head, saved_laid, saved_bodies, saved_pages, saved_image, ArePagesOf, CanBeSaved}
 use Rattle.store_image.specs.SavedLaws.{IsOfKind, SavedAreRead, SavedLoad}
 use Rattle.store_image.proofs.SavedBodies.{are_kinds, slots_back, pages_back}

@@ -1,6 +1,6 @@
 -- The nodes of a tree can be written: their entries are few, and what is in them has four bytes.
-use Rattle.std.proofs.Common.{◌≡◌, inl, inr, ℕ, zero, suc, ◌+◌, ◌-◌, ◌<◌, ◌≤◌, ◌^◌, Bool, true, false, cond, ◌||◌, ◌&&◌, List, [], ◌∷◌, ◌++◌, length, map, get_or, Option, Some, None, refl, sym, ◌∙◌, ap, subst, arith, IsTrue}
-use Rattle.std.specs.Prelude.{◌==◌, ◌≢◌, nat_le, sum_by, slice_get, slice_index}
+use Rattle.std.proofs.Common.{◌≡◌, inl, inr, ℕ, zero, suc, ◌+◌, ◌-◌, ◌<◌, ◌≤◌, ◌^◌, Bool, true, false, cond, ◌&&◌, List, [], ◌∷◌, length, map, Option, Some, None, refl, sym, ◌∙◌, ap, subst, arith, IsTrue}
+use Rattle.std.specs.Prelude.{◌==◌, ◌≢◌, nat_le, sum_by, slice_get}
 use Rattle.std.specs.List.{AllByRecursion, flat_map}
 use Rattle.std.specs.Cmp.{nat_cmp_total}
 use Rattle.std.specs.FinMap as finite
@@ -19,7 +19,7 @@ use Rattle.mtree_node.specs.declared.node.Node.TheOpen.{Node-F}
 use Rattle.mtree_node.specs.declared.shape.Shape.{Shape}
 use Rattle.mtree_node.specs.declared.shape.Shape.TheVariants as shape
 use Rattle.mtree_node.specs.Layer.{Layer}
-use Rattle.mtree_node.specs.Preorder.{LeafRow, InnerRow, leaf_row, size, size_in, inner_rows, shapes_below, shapes_in, shapes_from, preorder}
+use Rattle.mtree_node.specs.Preorder.{InnerRow, leaf_row, size, size_in, inner_rows, shapes_below, shapes_in, shapes_from, preorder}
 use Rattle.mtree_node.specs.Tree.{leaves, leaves_in, parent_distance, IsFilled, IsLeafEntry, IsInnerEntry, IsNode, IsNodeIn, IsTree}
 use Rattle.mtree_node.proofs.Taken.{Taken}
 use Rattle.mtree_node.proofs.Distinct.{ties, distinct_taken}

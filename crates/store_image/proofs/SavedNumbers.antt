@@ -1,13 +1,13 @@
 -- Numbers by slot of which none but 0 stands twice: no slot is repeated, and the numbers that are used.
 use Rattle.std.proofs.Common.{◌≡◌, ◌⊎◌, inl, inr, ⊎_elim, ℕ, ◌+◌, ◌≤◌, Bool, true, false, cond, not, ◌||◌, ◌&&◌, List, [], ◌∷◌, ◌++◌, length, take, get_or, Option, Some, None, refl, sym, ◌∙◌, ap, subst, length-append, append_assoc, arith}
 use Rattle.std.specs.Prelude.{◌==◌, count_by}
-use Rattle.std.specs.List.{list_any, find, range_with_len, AllByRecursion}
+use Rattle.std.specs.List.{find, range_with_len, AllByRecursion}
 use Rattle.std.proofs.lemmas.Bool.{cases_Bool, cases_eq, eqb-true, eq-eqb, ne_eqb, false≢true, or_parts, or_left, or_right}
 use Rattle.std.proofs.lemmas.List.{get_or_at, take_at}
 use Rattle.std.proofs.lemmas.List.Folds.{list_any-append}
 use Rattle.node_places.specs.Slots.{has, AreApart}
 use Rattle.stored_lines.specs.Lines.{AreOnce}
-use Rattle.stored_lines.proofs.Numbers.{counted, counted_here, counted_not}
+use Rattle.stored_lines.proofs.Numbers.{counted_here, counted_not}
 use Rattle.store_image.specs.Loading.{is_repeated, first_repeated}
 
 -- the place of the first number that stands in front of it too

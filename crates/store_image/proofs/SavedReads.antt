@@ -1,5 +1,5 @@
 -- What was written is read again, and how many slots were read.
-use Rattle.std.proofs.Common.{◌≡◌, ℕ, ◌+◌, ◌*◌, Bool, true, false, cond, List, [], ◌∷◌, ◌++◌, length, map, drop, get_or, Option, Some, None, Result, Ok, Err, refl, sym, ◌∙◌, ap, subst, arith, length-append, zero-add, IsTrue}
+use Rattle.std.proofs.Common.{◌≡◌, ℕ, ◌+◌, ◌*◌, Bool, true, false, cond, List, [], ◌∷◌, ◌++◌, length, map, get_or, Option, Some, None, Result, Ok, Err, refl, sym, ◌∙◌, ap, subst, arith, length-append, zero-add, IsTrue}
 use Rattle.std.specs.Prelude.{◌==◌}
 use Rattle.std.specs.List.{AllByRecursion}
 use Rattle.std.proofs.lemmas.List.FromFn.{length-map-range_with_len}
@@ -10,8 +10,8 @@ use Rattle.page_layout.specs.declared.fault.LayoutFault.TheVariants as layout_fa
 use Rattle.page_layout.specs.declared.body.Body.{Body}
 use Rattle.page_layout.specs.declared.body.Body.TheVariants as body
 use Rattle.page_layout.specs.Fields.{first_bad, unless_bad}
-use Rattle.page_layout.specs.Heads.{Values, HeadValue, IsHead, head_of, head_page}
-use Rattle.page_layout.specs.Slots.{Rows, slots_in_page, slot_at, slot_in, rows_in, record_fields, rows_of_page}
+use Rattle.page_layout.specs.Heads.{Values, HeadValue, IsHead, head_page}
+use Rattle.page_layout.specs.Slots.{Rows, slot_at, slot_in, rows_in, record_fields, rows_of_page}
 use Rattle.page_layout.specs.Leaves.{leaves_of}
 use Rattle.page_layout.specs.Inner.{inner_of}
 use Rattle.page_layout.specs.Bodies.{as_body, body_of, IsBody, body_bytes}

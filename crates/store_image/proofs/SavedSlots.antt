@@ -1,5 +1,5 @@
 -- Slots after a save: their numbers, records and lines, and that they are lawful.
-use Rattle.std.proofs.Common.{◌≡◌, inl, inr, ℕ, ◌+◌, ◌<◌, ◌≤◌, ◌^◌, Bool, true, false, cond, ◌||◌, ◌&&◌, List, [], ◌∷◌, ◌++◌, length, map, Option, Some, None, refl, sym, ◌∙◌, ap, subst, arith, IsTrue}
+use Rattle.std.proofs.Common.{◌≡◌, inl, inr, ℕ, ◌+◌, ◌<◌, ◌≤◌, ◌^◌, Bool, true, false, cond, ◌||◌, ◌&&◌, List, [], ◌∷◌, ◌++◌, length, map, Option, Some, None, refl, sym, ◌∙◌, ap, subst, arith}
 use Rattle.std.specs.Prelude.{◌==◌, nat_le, is_some, unwrap_or}
 use Rattle.std.specs.List.{flat_map, AllByRecursion}
 use Rattle.std.specs.Ordering.{nat_cmp, eq_by_cmp}
@@ -10,7 +10,7 @@ use Rattle.std.proofs.lemmas.Bool.{cases_Bool, cases_eq, eqb-true, eq-eqb, ne_eq
 use Rattle.std.proofs.lemmas.List.{length-map}
 use Rattle.vec_record.specs.Held as held
 use Rattle.node_places.specs.Slots.{has, AreApart}
-use Rattle.node_places.proofs.Keys.{tied_is, has_keys}
+use Rattle.node_places.proofs.Keys.{tied_is}
 use Rattle.count_book.specs.declared.row.Row.{Row}
 use Rattle.count_book.specs.Counted.{anchor_in}
 use Rattle.update_seed.specs.Books.{Fits}
@@ -21,8 +21,7 @@ use Rattle.stored_lines.proofs.Back.{lines_are_lawful, books_come_back}
 use Rattle.kept_clusters.specs.Kept.{Kept}
 use Rattle.page_layout.specs.declared.slot.Slot.{Slot}
 use Rattle.page_layout.specs.Heads.{Values}
-use Rattle.page_layout.specs.Slots.{Rows, IsSlot, IsRow, is_core_count, is_anchor, is_label}
-use Rattle.vec_record.specs.Limits.{is_between}
+use Rattle.page_layout.specs.Slots.{Rows, IsSlot, IsRow, is_core_count}
 use Rattle.store_image.specs.Images.{number_of, entry_of, line_of, vectors_of, lines_of}
 use Rattle.store_image.specs.Placing.{slot_with, slot_for, CanStand, AreBounded}
 use Rattle.store_image.proofs.SavedNumbers.{used_in, has_used, none_zero, each_some, used_once}

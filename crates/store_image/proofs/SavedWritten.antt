@@ -1,5 +1,5 @@
 -- What is saved can be written: its head and its body pages are lawful.
-use Rattle.std.proofs.Common.{◌≡◌, ℕ, ◌+◌, ◌*◌, ◌/◌, ◌<◌, ◌≤◌, ◌^◌, ◌&&◌, Bool, cond, List, [], ◌∷◌, length, map, drop, get_or, Option, Some, None, refl, sym, ◌∙◌, ap, subst, arith, IsTrue}
+use Rattle.std.proofs.Common.{◌≡◌, ℕ, ◌+◌, ◌/◌, ◌<◌, ◌≤◌, ◌^◌, ◌&&◌, Bool, cond, List, [], ◌∷◌, length, map, get_or, Option, Some, None, sym, ◌∙◌, ap, subst, arith, IsTrue}
 use Rattle.std.specs.Prelude.{◌==◌, ◌≢◌, nat_le}
 use Rattle.std.specs.List.{AllByRecursion}
 use Rattle.std.specs.Ordering.{nat_cmp}
@@ -20,7 +20,7 @@ use Rattle.mtree_node.specs.Tree.{records as records_in, IsNode, IsTree}
 use Rattle.mtree_node.specs.Walk.{CanBeBuilt}
 use Rattle.mtree_node.proofs.Sizes.{all_weaker}
 use Rattle.mtree_index.specs.Tree.{contents, records_of, IsRoot}
-use Rattle.tree_objects.specs.Objects.{RootHasAll, ShapeHasAll}
+use Rattle.tree_objects.specs.Objects.{RootHasAll}
 use Rattle.tree_objects.specs.Laws.{Passes, ShapesPass, ShapesHaveAll}
 use Rattle.tree_objects.proofs.Lists.{get_all}
 use Rattle.kept_clusters.specs.Kept.{Kept}
@@ -30,12 +30,12 @@ use Rattle.tree_layout.specs.Layouts.{Laid, referred, leaf_for, inner_for}
 use Rattle.page_layout.specs.declared.body.Body.{Body}
 use Rattle.page_layout.specs.Heads.{Values, HeadValue, IsHead, is_root, is_height}
 use Rattle.page_layout.specs.Bodies.{IsBody}
-use Rattle.store_image.specs.Placing.{size_on, slot_for, numbers_after, saved_head, saved_laid, saved_bodies, ArePagesOf, CanBeSaved}
-use Rattle.store_image.specs.SavedLaws.{AreLawful, SavedAreLawful}
+use Rattle.store_image.specs.Placing.{slot_for, numbers_after, saved_head, saved_laid, saved_bodies, ArePagesOf, CanBeSaved}
+use Rattle.store_image.specs.SavedLaws.{SavedAreLawful}
 use Rattle.store_image.proofs.SavedBodies.{AreParts, bodies_lawful}
 use Rattle.store_image.proofs.SavedNumbers.{used_in}
 use Rattle.store_image.proofs.SavedSlots.{none_at_zero, slots_lawful, lines_lawful}
-use Rattle.store_image.proofs.SavedNodes.{IsGoodRow, AreGoodRows, IsGoodShape, IsNumber, nodes_good, AreRefs, leaves_written, inners_written}
+use Rattle.store_image.proofs.SavedNodes.{IsGoodRow, IsGoodShape, IsNumber, nodes_good, AreRefs, leaves_written, inners_written}
 use Rattle.store_image.proofs.SavedCounts.{Below, nodes_at, tree_width, no_record_at_zero, apart, all_stand, laid_sized, slots_long, saved_kinds, saved_few}
 use Rattle.store_image.proofs.LoadFacts.{few_bounded, kinds_few}
 

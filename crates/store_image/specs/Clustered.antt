@@ -1,6 +1,6 @@
 -- Whether what a store keeps of its clusters is what is due to its records.
-use Rattle.std.specs.Prelude.{◌≡◌, ℕ, List, [], ◌==◌, if◌then◌else◌, drop, get_or, unwrap_or, Option, Some, None}
-use Rattle.std.specs.List.{AllByRecursion, flat_map}
+use Rattle.std.specs.Prelude.{◌≡◌, ℕ, List, if◌then◌else◌, unwrap_or}
+use Rattle.std.specs.List.{AllByRecursion}
 use Rattle.std.specs.FinMap as maps
 use Rattle.vec_record.specs.Held as held
 use Rattle.vec_record.specs.Distance.{distance_of}

@@ -1,5 +1,5 @@
 -- What a store in memory is: its head, its records, and what is kept of their clusters.
-use Rattle.std.specs.Prelude.{◌==◌, not, ℕ, List, [], ◌∷◌, map, filter, Option, Some, None}
+use Rattle.std.specs.Prelude.{ℕ, List, [], ◌∷◌, Option, Some, None}
 use Rattle.std.specs.List.{flat_map}
 use Rattle.std.specs.FinMap as maps
 use Rattle.vec_record.specs.Held as held

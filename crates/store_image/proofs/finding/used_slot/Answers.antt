@@ -1,4 +1,4 @@
-use Rattle.std.proofs.Common.{◌≡◌, ℕ, ◌+◌, get_or, sym, ◌∙◌, ap}
+use Rattle.std.proofs.Common.{ℕ, ◌+◌, get_or, sym, ◌∙◌, ap}
 use Rattle.store_image.proofs.LoadFinding.{used_at, used_other, used_behind}
 use Rattle.store_image.proofs.finding.used_slot.Goals as goal
 use Rattle.store_image.proofs.finding.used_slot.Goals.{then-numbers-i-ne0+else-left-eq0, else-numbers-i-ne0}

@@ -1,4 +1,4 @@
-use Rattle.std.proofs.Common.{◌≡◌, ap, sym, ◌∙◌}
+use Rattle.std.proofs.Common.{ap, sym, ◌∙◌}
 use Rattle.page_layout.specs.Heads.{values_of}
 use Rattle.stored_lines.specs.Lines.{first_loose}
 use Rattle.store_image.specs.inside.Reads.{tied_at, ties}

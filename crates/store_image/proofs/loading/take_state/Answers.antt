@@ -1,8 +1,6 @@
-use Rattle.std.proofs.Common.{◌≡◌, ℕ, length, Ok, refl, sym, ◌∙◌, ap, subst, arith}
+use Rattle.std.proofs.Common.{Ok, sym, ◌∙◌, ap, subst, arith}
 use Rattle.std.proofs.lemmas.Result.{err_from_is_err_and}
-use Rattle.std.specs.FinMap as maps
-use Rattle.page_layout.specs.Heads.{values_of, plain}
-use Rattle.kept_clusters.specs.Kept.{Kept}
+use Rattle.page_layout.specs.Heads.{plain}
 use Rattle.store_image.specs.Placing.{IsKept}
 use Rattle.store_image.proofs.LoadChecks.{remaining_uncounted, remaining_loose, remaining_treeless, remaining_passes, kept_is, state_image}
 use Rattle.store_image.proofs.LoadFacts.{kept_of}

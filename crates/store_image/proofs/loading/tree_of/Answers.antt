@@ -1,5 +1,4 @@
-use Rattle.std.proofs.Common.{◌≡◌, ℕ, List, sym, ◌∙◌, ap, subst, replicate}
-use Rattle.vec_record.specs.Vectors.{IsVector}
+use Rattle.std.proofs.Common.{◌≡◌, sym, ◌∙◌, ap, subst, replicate}
 use Rattle.vec_record.specs.Distance.{distance_of, greatest_of}
 use Rattle.vec_record.specs.Limits.{width_of}
 use Rattle.vec_record.specs.Spelled.{is_spelled}

@@ -1,4 +1,4 @@
-use Rattle.std.proofs.Common.{◌≡◌, ◌+◌, ◌<◌, ◌^◌, true, false, List, ℕ, length, map, refl, sym, ◌∙◌, ap, subst, arith}
+use Rattle.std.proofs.Common.{◌≡◌, true, List, ℕ, length, map, sym, ◌∙◌, ap, subst, arith}
 use Rattle.std.specs.List.{AllByRecursion}
 use Rattle.std.proofs.lemmas.Result.{err_from_is_err_and}
 use Rattle.page_layout.specs.Heads.{values_of}
@@ -6,7 +6,7 @@ use Rattle.page_layout.specs.Slots.{Rows, IsRow}
 use Rattle.store_image.specs.Contents.{kinds_of, all_slots}
 use Rattle.store_image.specs.Images.{number_of}
 use Rattle.store_image.specs.Loading.{are_few, Fails}
-use Rattle.store_image.specs.inside.Reads.{repeats, parted}
+use Rattle.store_image.specs.inside.Reads.{repeats}
 use Rattle.store_image.proofs.LoadFacts.{few_bounded, kinds_few, slots_lawful, sorted_of}
 use Rattle.store_image.proofs.LoadChecks.{many_parted, repeats_fail}
 use Rattle.store_image.proofs.sorted.sort_bodies.Goals as goal

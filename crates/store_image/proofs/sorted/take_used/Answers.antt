@@ -1,4 +1,4 @@
-use Rattle.std.proofs.Common.{◌≡◌, ℕ, List, [], ◌∷◌, ◌++◌, length, ◌∙◌, ap, subst, arith}
+use Rattle.std.proofs.Common.{◌≡◌, ℕ, [], ◌∷◌, ◌++◌, length, ◌∙◌, ap, subst, arith}
 use Rattle.std.specs.FinMap as maps
 use Rattle.std.proofs.lemmas.Result.{err_from_is_err_and}
 use Rattle.stored_lines.specs.declared.line.Line.{Line}
