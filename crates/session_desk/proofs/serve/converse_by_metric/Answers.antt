@@ -1,7 +1,7 @@
 use Rattle.std.proofs.Common.{◌≡◌, sym, subst}
 use Rattle.warehouse_core.specs.States.{IsClustered}
 use Rattle.session_desk.specs.declared.serve.AnyWarehouse.{AnyWarehouse}
-use Rattle.session_desk.specs.Talks.{Concludes, IsEven, desk_of}
+use Rattle.session_desk.specs.Talks.{Concludes, IsCutOff, IsEven, desk_of}
 use Rattle.session_desk.specs.Opened.{state_of}
 use Rattle.session_desk.proofs.serve.converse_by_metric.Goals as goal
 
@@ -37,3 +37,18 @@ pub returns-in-Hamming-clause-settled : goal.returns-in-Hamming-clause-settled
 returns-in-Hamming-clause-settled g c = λ s t stand ended.
     let P : AnyWarehouse → Type 0 = λ x. IsEven (desk_of g.W.Watcher.says_after (state_of x) c.args.session.feed) (g.S.Source.left c.args.source.now) (g.T.Site.state c.args.site.now) (g.T.Site.state c.hold_session-in-Hamming.new.site) in
     subst P (sym c.in-Hamming.is) (c.hold_session-in-Hamming.ensures.settled s t (subst IsStanding c.in-Hamming.is stand) ended)
+
+pub returns-in-L1-clause-whole : goal.returns-in-L1-clause-whole
+returns-in-L1-clause-whole g c = λ s t stand fault.
+    let P : AnyWarehouse → Type 0 = λ x. IsCutOff (desk_of g.W.Watcher.says_after (state_of x) c.args.session.feed) (g.S.Source.left c.args.source.now) (g.S.Source.left c.hold_session.new.source) (g.T.Site.state c.args.site.now) (g.T.Site.state c.hold_session.new.site) in
+    subst P (sym c.in-L1.is) (c.hold_session.ensures.whole s t (subst IsStanding c.in-L1.is stand) fault)
+
+pub returns-in-Max-clause-whole : goal.returns-in-Max-clause-whole
+returns-in-Max-clause-whole g c = λ s t stand fault.
+    let P : AnyWarehouse → Type 0 = λ x. IsCutOff (desk_of g.W.Watcher.says_after (state_of x) c.args.session.feed) (g.S.Source.left c.args.source.now) (g.S.Source.left c.hold_session-in-Max.new.source) (g.T.Site.state c.args.site.now) (g.T.Site.state c.hold_session-in-Max.new.site) in
+    subst P (sym c.in-Max.is) (c.hold_session-in-Max.ensures.whole s t (subst IsStanding c.in-Max.is stand) fault)
+
+pub returns-in-Hamming-clause-whole : goal.returns-in-Hamming-clause-whole
+returns-in-Hamming-clause-whole g c = λ s t stand fault.
+    let P : AnyWarehouse → Type 0 = λ x. IsCutOff (desk_of g.W.Watcher.says_after (state_of x) c.args.session.feed) (g.S.Source.left c.args.source.now) (g.S.Source.left c.hold_session-in-Hamming.new.source) (g.T.Site.state c.args.site.now) (g.T.Site.state c.hold_session-in-Hamming.new.site) in
+    subst P (sym c.in-Hamming.is) (c.hold_session-in-Hamming.ensures.whole s t (subst IsStanding c.in-Hamming.is stand) fault)
