@@ -2,6 +2,7 @@
 ghost use Rattle.std.specs.Prelude.{◌≡◌, ◌≤◌, ◌+◌, ◌++◌, ℕ, List, false, Ok, Err, IsTrue, IfOk, IfErr, OnOk};
 ghost use Rattle.std.specs.Prelude.{OnErr};
 ghost use Rattle.site_disk.specs.Causes.{Rose};
+ghost use Rattle.site_disk.specs.State.{Joins};
 ghost use Rattle.page_gate.specs.Promises.{Holds};
 ghost use Rattle.page_layout.specs.Heads.{plain};
 ghost use Rattle.vec_record.specs.Distance.{distance_of};
@@ -67,6 +68,8 @@ pub(crate) fn save<M: Metric, T: Site>(
     ensures unwritten { result ≡ Err Memory → site.new ≡ site.old }
     ensures fault { result ≡ Err SiteFault → Rose (T.faults site.old) (T.faults site.new) }
     ensures later { T.faults site.old ≤ T.faults site.new }
+    ensures joins { IsTrue T.tells → Joins (T.state site.old) (T.state site.new) }
+    ensures said { IsTrue T.tells → (T.state site.new).said ≡ (T.state site.old).said }
     ensures ready { IsTrue T.tells → OnOk result (Holds pages.new.list (T.state site.new)) }
     ensures told { IsTrue T.tells → StandBy (distance_of state.old.head.params.metric)
         (plain state.old.head).values state.old.records state.old.clusters

@@ -6,6 +6,7 @@ ghost use Rattle.std.specs.Prelude.{Ok, Err, None, Some, length, IsTrue, IsOk, I
 ghost use Rattle.std.specs.Prelude.{OnOk, OnErr};
 ghost use Rattle.std.specs.Prelude.{IfErr, MatchResult};
 ghost use Rattle.site_disk.specs.Causes.{Rose};
+ghost use Rattle.site_disk.specs.State.{Joins};
 ghost use Rattle.page_gate.specs.Promises.{Holds};
 ghost use Rattle.std.specs.List.{AllByRecursion};
 ghost use Rattle.std.specs.FinMap as map;
@@ -176,7 +177,9 @@ impl<M: Metric> Warehouse<M> {
             → Rose (T.faults site.old) (T.faults site.new) }
         ensures later { T.faults site.old ≤ T.faults site.new }
 
-        // What a crash leaves at each moment.
+        // What a crash leaves at each moment; nothing is said.
+        ensures joins { IsTrue T.tells → Joins (T.state site.old) (T.state site.new) }
+        ensures said { IsTrue T.tells → (T.state site.new).said ≡ (T.state site.old).said }
         ensures moments { IsTrue T.tells → IsClustered self.old
             → BatchSteps body.now result self.old (T.state site.old) (T.state site.new) }
 
@@ -239,6 +242,8 @@ impl<M: Metric> Warehouse<M> {
         ensures fault { result ≡ Err Refusal.SiteFault
             → Rose (T.faults site.old) (T.faults site.new) }
         ensures later { T.faults site.old ≤ T.faults site.new }
+        ensures joins { IsTrue T.tells → Joins (T.state site.old) (T.state site.new) }
+        ensures said { IsTrue T.tells → (T.state site.new).said ≡ (T.state site.old).said }
         ensures moments { IsTrue T.tells → IsClustered self.old → (body : List ℕ)
             → due self.old body ≡ Ok changes
             → BatchSteps body result self.old (T.state site.old) (T.state site.new) }
