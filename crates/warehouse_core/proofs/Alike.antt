@@ -120,7 +120,7 @@ module _ (v : Values) (records : Held) (k : Kept) (dist : List ℕ → List ℕ 
   stand_under by =
       let here : For (density_by v) = subst For (density_in_is (distance_of v.metric) v k by.eps by.minpts) by.stand in
       let there : For (density dist v.eps v.minpts) =
-          stands_alike (density_by v) (density dist v.eps v.minpts) records (λ a b. sym (is_near_by v (maps.entries records.vectors) dist all law a b)) refl _ _ _ _ here in
+      stands_alike (density_by v) (density dist v.eps v.minpts) records (λ a b. sym (is_near_by v (maps.entries records.vectors) dist all law a b)) refl _ _ _ _ here in
       record { eps = by.eps; minpts = by.minpts; stand = subst For (sym (density_in_is dist v k by.eps by.minpts)) there }
 
 -- what changes ask about, by two distances that agree on the vectors before and after

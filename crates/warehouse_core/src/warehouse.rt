@@ -405,7 +405,8 @@ impl<M: Metric> Warehouse<M> {
             + query_cost M.dist self.now.kept.tree v self.now.values.eps }
         ensures most { steps.new ≤ steps.old + 2 * map.len self.now.rows }
     {
-        self.state.clusters.near(&self.state.records, number, out, steps)
+        let clusters = &self.state.clusters;
+        clusters.near(&self.state.records, number, out, steps)
     }
 
     /// The counts of all marks, in one pass that takes no memory.
