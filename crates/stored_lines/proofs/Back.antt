@@ -13,8 +13,8 @@ use Rattle.count_book.specs.Counted.{Counted, IsCore, anchor_in}
 use Rattle.label_book.specs.Labels.{Labels}
 use Rattle.label_book.proofs.Views.{same_value, labels_same, some_and}
 use Rattle.stored_lines.specs.declared.line.Line.{Line}
-use Rattle.stored_lines.specs.Lines.{AreOnce, IsLine, number_of, line_with, is_core, is_head, is_core_line, leads, rows_of, row_in, named_by, labels_of, count_in, line_in}
-use Rattle.stored_lines.specs.Laws.{HaveForm, AreNumbers, AreLinesOf, BooksComeBack}
+use Rattle.stored_lines.specs.Lines.{AreOnce, AreLines, IsLine, number_of, line_with, is_core, is_head, is_core_line, leads, rows_of, row_in, named_by, labels_of, count_in, line_in}
+use Rattle.stored_lines.specs.Laws.{AreFormed, AreHung, AreNumbers, AreLinesOf, BooksComeBack, LinesAreLawful}
 use Rattle.stored_lines.proofs.Numbers.{equal}
 use Rattle.stored_lines.proofs.Looked.{get_rows, label_in, get_labels}
 use Rattle.stored_lines.proofs.Tied.{IsTied, each_tied}
@@ -36,7 +36,7 @@ named_again : (o : Option ℕ) → ((b : ℕ) → o ≡ Some b → (b == 0) ≡ 
 named_again None h = refl
 named_again (Some b) h = rw (h b refl) refl
 
-module _ (counts : Counted) (labels : Labels) (has : HaveForm counts labels) (numbers : List ℕ) (are : AreNumbers counts numbers) where
+module _ (counts : Counted) (labels : Labels) (has : AreFormed counts labels) (numbers : List ℕ) (are : AreNumbers counts numbers) where
   abbrev of : ℕ → Line
   of n = line_in counts labels n
 
@@ -111,20 +111,20 @@ module _ (counts : Counted) (labels : Labels) (has : HaveForm counts labels) (nu
 
   -- ---- the rows and the labels
 
-  row_again : (q : ℕ) (r : Row) → row_at q ≡ Some r → row_in (of q) ≡ r
-  row_again q r is =
-      let anchor : named_by (of q).anchor ≡ r.anchor = ap named_by (anchor_is q r is) ∙ named_again r.anchor (λ b at. core_not_0 b (has.anchored q r b is at)) in
+  row_again : AreHung counts → (q : ℕ) (r : Row) → row_at q ≡ Some r → row_in (of q) ≡ r
+  row_again hung q r is =
+      let anchor : named_by (of q).anchor ≡ r.anchor = ap named_by (anchor_is q r is) ∙ named_again r.anchor (λ b at. core_not_0 b (hung q r b is at)) in
       let count = count_is q r is in
       λ i. record { count = count i; anchor = anchor i }
 
-  rows_told : (q : ℕ) → option_map row_in (line_with lines q) ≡ row_at q
-  rows_told q = elim (known (row_at q)) [
+  rows_told : AreHung counts → (q : ℕ) → option_map row_in (line_with lines q) ≡ row_at q
+  rows_told hung q = elim (known (row_at q)) [
     | inl none ↦ ap (option_map row_in) (found q ∙ ap (λ o. cond (is_some o) (Some (of q)) None) none) ∙ sym none
-    | inr some ↦ ap (option_map row_in) (found_some q some.0 some.1) ∙ ap (λ (x : Row). Some x) (row_again q some.0 some.1) ∙ sym some.1
+    | inr some ↦ ap (option_map row_in) (found_some q some.0 some.1) ∙ ap (λ (x : Row). Some x) (row_again hung q some.0 some.1) ∙ sym some.1
   ]
 
-  pub rows_back : rows_of lines ≡ counts.rows
-  rows_back = maps.same_map nat_cmp_total maps.nat_cmp-IsAntisymmetric (rows_of lines) counts.rows (λ q. get_rows lines q ∙ rows_told q)
+  pub rows_back : AreHung counts → rows_of lines ≡ counts.rows
+  rows_back hung = maps.same_map nat_cmp_total maps.nat_cmp-IsAntisymmetric (rows_of lines) counts.rows (λ q. get_rows lines q ∙ rows_told hung q)
 
   no_label : (q : ℕ) → (IsCore counts q → ⊥) → maps.get labels q ≡ None
   no_label q plain = elim (known (maps.get labels q)) [
@@ -188,13 +188,13 @@ module _ (counts : Counted) (labels : Labels) (has : HaveForm counts labels) (nu
         above : (l : ℕ) → (l == 0) ≡ false → 1 ≤ l
         above l h = elim (eqb_tells l 0) [ inl s ↦ absurd (never (l == 0) h s.0) | inr o ↦ omega (arith, o.1) ]
 
-  tied_line : (n : ℕ) (r : Row) → row_at n ≡ Some r → IsTied (is_core_line counts.minpts lines) (leads counts.minpts lines) (of n)
-  tied_line n r is = record {
+  tied_line : AreHung counts → (n : ℕ) (r : Row) → row_at n ≡ Some r → IsTied (is_core_line counts.minpts lines) (leads counts.minpts lines) (of n)
+  tied_line hung n r is = record {
     anchor = λ h. elim (known r.anchor) [
       | inl none ↦ absurd (never ((of n).anchor == 0) h (ap (λ a. a == 0) (anchor_is n r is ∙ ap (λ o. unwrap_or o 0) none) ∙ equal 0))
       | inr some ↦
           let at : (of n).anchor ≡ some.0 = anchor_is n r is ∙ ap (λ o. unwrap_or o 0) some.1 in
-          let core = core_row some.0 (has.anchored n r some.0 is some.1) in
+          let core = core_row some.0 (hung n r some.0 is some.1) in
           let high : counts.minpts ≤ (of some.0).count = subst (λ k. counts.minpts ≤ k) (sym (count_is some.0 core.0 core.1)) core.2 in
           ap (is_core_line counts.minpts lines) at ∙ ap (is_core counts.minpts) (found_some some.0 core.0 core.1) ∙ le-leb counts.minpts (of some.0).count high
     ];
@@ -231,13 +231,25 @@ module _ (counts : Counted) (labels : Labels) (has : HaveForm counts labels) (nu
   lines_once : AreOnce (map number_of lines)
   lines_once = subst AreOnce (sym (numbers_back numbers)) are.once
 
-  pub came_back : AreLinesOf counts labels lines
-  came_back = record {
-    lawful = record { each = all_lines (IsLine counts.minpts) lawful_line; once = lines_once };
-    tied = each_tied (is_core_line counts.minpts lines) (leads counts.minpts lines) 0 lines (all_lines (IsTied (is_core_line counts.minpts lines) (leads counts.minpts lines)) (λ n r low is. tied_line n r is));
-    rows = rows_back;
+  pub lawful_lines : AreLines counts.minpts lines
+  lawful_lines = record { each = all_lines (IsLine counts.minpts) lawful_line; once = lines_once }
+
+  pub came_back : AreHung counts → AreLinesOf counts labels lines
+  came_back hung = record {
+    lawful = lawful_lines;
+    tied = each_tied (is_core_line counts.minpts lines) (leads counts.minpts lines) 0 lines (all_lines (IsTied (is_core_line counts.minpts lines) (leads counts.minpts lines)) (λ n r low is. tied_line hung n r is));
+    rows = rows_back hung;
     labels_are = labels_same (labels_of counts.minpts lines) labels (λ q. get_labels counts.minpts lines q lines_once ∙ labels_told q);
   }
 
 pub books_come_back : BooksComeBack
-books_come_back counts labels numbers has are = came_back counts labels has numbers are
+books_come_back counts labels numbers has are =
+    let formed : AreFormed counts labels = record {
+      counted = has.counted;
+      unhung = has.unhung;
+      labelled = has.labelled;
+      least = has.least;
+    } in came_back counts labels formed numbers are has.anchored
+
+pub lines_are_lawful : LinesAreLawful
+lines_are_lawful counts labels numbers has are = lawful_lines counts labels has numbers are

@@ -21,6 +21,21 @@ pub record HaveForm (counts : Counted) (labels : Labels) : Type 0 where
   pub labelled : (a : ℕ) → IsSome (maps.get labels a) ↔ IsCore counts a
   pub least : HasLeast labels
 
+-- The form of books, but for what anchors are.
+pub record AreFormed (counts : Counted) (labels : Labels) : Type 0 where
+  pub counted : (a : ℕ) (r : Row) → maps.get counts.rows a ≡ Some r → 1 ≤ r.count
+  pub unhung :
+      (a : ℕ) (r : Row) → maps.get counts.rows a ≡ Some r → counts.minpts ≤ r.count
+      → r.anchor ≡ None
+  pub labelled : (a : ℕ) → IsSome (maps.get labels a) ↔ IsCore counts a
+  pub least : HasLeast labels
+
+-- Each anchor is a core.
+abbrev pub AreHung : Counted → Type 0
+AreHung counts =
+    (a : ℕ) (r : Row) (b : ℕ) → maps.get counts.rows a ≡ Some r → r.anchor ≡ Some b
+    → IsCore counts b
+
 -- The numbers of a book are exactly those of the list, which has each once and no 0.
 pub record AreNumbers (counts : Counted) (numbers : List ℕ) : Type 0 where
   pub exact : (a : ℕ) → is_some (maps.get counts.rows a) ≡ list_any (λ n. n == a) numbers
@@ -44,6 +59,11 @@ pub record AreLinesOf (counts : Counted) (labels : Labels) (lines : List Line) :
   pub tied : first_loose counts.minpts lines ≡ None
   pub rows : rows_of lines ≡ counts.rows
   pub labels_are : labels_of counts.minpts lines ≡ labels
+
+-- The lines of books of that form, whatever their anchors are, are lawful.
+abbrev pub LinesAreLawful : Type 0
+LinesAreLawful = (counts : Counted) (labels : Labels) (numbers : List ℕ) → AreFormed counts labels
+    → AreNumbers counts numbers → AreLines counts.minpts (map (line_in counts labels) numbers)
 
 -- The lines of books of that form, over their numbers in any order, say these books.
 abbrev pub BooksComeBack : Type 0
