@@ -22,7 +22,7 @@ use Rattle.session_desk.specs.declared.requests.Asked as read
 use Rattle.session_desk.specs.declared.requests.Asked.TheVariants as asked
 use Rattle.session_desk.specs.Input.{is_long}
 use Rattle.session_desk.specs.Answers.{refusal_line}
-use Rattle.session_desk.specs.Session.{Request, Batch, Answer, SessionState, batch_answer, refuses, body_of}
+use Rattle.session_desk.specs.Session.{Request, Batch, Answer, batch_answer, refuses, body_of}
 use Rattle.session_desk.specs.Asking.{IsAsked}
 use Rattle.session_desk.specs.Talks.{Desk, desk_at, desk_behind, IsServing, answer_on, IsStoreOf, IsGiven, IsAnswered, Answering, IsReplying}
 use Rattle.session_desk.proofs.Going.{safe_as}

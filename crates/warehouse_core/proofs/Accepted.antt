@@ -1,13 +1,11 @@
 -- What an accepted batch leaves, and what a crash leaves at each moment of its saving.
-use Rattle.std.proofs.Common.{◌≡◌, ◌⊎◌, inl, inr, ℕ, ◌+◌, ◌++◌, Bool, true, false, List, length, drop, count_by, Result, Ok, refl, sym, ap, subst, ◌∙◌, codes}
+use Rattle.std.proofs.Common.{◌≡◌, ◌⊎◌, inl, inr, ℕ, ◌+◌, ◌++◌, Bool, true, false, List, count_by, Result, Ok, refl, sym, ap, subst, ◌∙◌, codes}
 use Rattle.vec_record.specs.Held.{Held, Rows}
 use Rattle.vec_record.specs.declared.change.Change.{Change}
 use Rattle.vec_record.specs.declared.event.Event.{Event}
-use Rattle.vec_record.specs.declared.kind.MetricKind.{MetricKind}
-use Rattle.kept_clusters.specs.Kept.{Kept, with_tags}
+use Rattle.kept_clusters.specs.Kept.{with_tags}
 use Rattle.site_disk.specs.State.{SiteState}
 use Rattle.page_gate.specs.Gate.{opening, Opens}
-use Rattle.page_layout.specs.Heads.{Values}
 use Rattle.store_image.specs.declared.loaded.Places.{Places}
 use Rattle.store_image.specs.Images.{Image}
 use Rattle.store_image.specs.Loading.{load_of}

@@ -5,7 +5,6 @@ use Rattle.vec_record.specs.Held.{Held}
 use Rattle.vec_record.specs.Limits.{width_of}
 use Rattle.vec_record.specs.declared.kind.MetricKind.{MetricKind}
 use Rattle.page_layout.specs.Heads.{Values}
-use Rattle.count_book.specs.Counted.{Counted}
 use Rattle.mtree_index.specs.Plain.{PlainTree}
 use Rattle.kept_clusters.specs.Kept.{Stand}
 use Rattle.stored_lines.specs.Laws.{AreHung}

@@ -14,7 +14,7 @@ use Rattle.count_book.specs.Counted.{Counted, row_of}
 use Rattle.label_book.specs.Labels.{Labels}
 use Rattle.update_seed.specs.Books.{StandsFor, row_due, label_due}
 use Rattle.mtree_index.specs.Tree.{contents}
-use Rattle.kept_clusters.specs.Kept.{Kept, Stand, density_in}
+use Rattle.kept_clusters.specs.Kept.{Kept, density_in}
 use Rattle.warehouse_core.specs.States.{StandBy}
 use Rattle.vec_record.specs.Limits.{are_within, greatest_dim, is_between, width_of}
 use Rattle.vec_record.specs.Vectors.{IsVector, IsWidth}

@@ -1,5 +1,5 @@
 -- What one batch does to a warehouse and to its site.
-use Rattle.std.specs.Prelude.{◌≡◌, ◌⊎◌, ℕ, ◌+◌, ◌++◌, Bool, true, false, List, [], length, Result, Ok, Err, IfErr}
+use Rattle.std.specs.Prelude.{◌≡◌, ◌⊎◌, ℕ, ◌+◌, ◌++◌, Bool, true, false, List, [], Result, Ok, Err, IfErr}
 use Rattle.vec_record.specs.declared.change.Change.{Change}
 use Rattle.vec_record.specs.declared.event.Event.{Event}
 use Rattle.site_disk.specs.State.{SiteState, Safe}

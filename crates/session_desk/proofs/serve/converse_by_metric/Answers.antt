@@ -1,4 +1,4 @@
-use Rattle.std.proofs.Common.{◌≡◌, sym, subst}
+use Rattle.std.proofs.Common.{sym, subst}
 use Rattle.warehouse_core.specs.States.{IsClustered}
 use Rattle.session_desk.specs.declared.serve.AnyWarehouse.{AnyWarehouse}
 use Rattle.session_desk.specs.Talks.{Concludes, IsCutOff, IsEven, desk_of}

@@ -1,11 +1,11 @@
-use Rattle.std.proofs.Common.{◌≡◌, ◌≤◌, ◌∙◌, ◌-◌, ◌+◌, ◌<◌, ◌++◌, ℕ, suc, List, [], ◌∷◌, ap, subst, sym, arith}
+use Rattle.std.proofs.Common.{◌≡◌, ◌≤◌, ◌∙◌, ◌-◌, ◌+◌, ℕ, suc, [], ◌∷◌, ap, subst, arith}
 use Rattle.vec_record.specs.Held.{Rows}
 use Rattle.vec_record.specs.declared.change.Change.{Change}
 use Rattle.event_feed.specs.Meanings.{Slots, meanings, told_all}
 use Rattle.warehouse_core.specs.Batches.{density_by, events_of, rows_after}
 use Rattle.warehouse_core.specs.Work.{work_of}
 use Rattle.session_desk.specs.Trial.{trial_values, draw, drawn_change, last_draw, held_on}
-use Rattle.session_desk.proofs.Trials.{HasDrawn, HasCounted, draws_begin, draws_go_on, draws_end, rows_next, counts_begin, counts_within, counts_go_on, counts_so_far}
+use Rattle.session_desk.proofs.Trials.{HasDrawn, HasCounted, draws_begin, draws_go_on, draws_end, rows_next, counts_begin, counts_within, counts_go_on}
 use Rattle.session_desk.proofs.trial.apply_drawn.Goals as goal
 
 pub loop-init : goal.loop-init

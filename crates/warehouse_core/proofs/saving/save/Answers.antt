@@ -1,11 +1,9 @@
-use Rattle.std.proofs.Common.{◌∙◌, ℕ, List, Ok, ap, sym, subst}
+use Rattle.std.proofs.Common.{◌∙◌, ℕ, List, ap, sym, subst}
 use Rattle.std.proofs.lemmas.Result.{err_from_is_err_and}
-use Rattle.kept_clusters.specs.Kept.{Kept}
 use Rattle.page_gate.specs.Promises.{Holds}
 use Rattle.page_gate.specs.Writes.{pairs, written}
 use Rattle.page_layout.specs.Heads.{plain}
 use Rattle.store_image.specs.Images.{Image, image_with}
-use Rattle.store_image.specs.Loading.{load_of}
 use Rattle.warehouse_core.proofs.Moments.{committed, faulted, no_want, planned, unsaved_yet}
 use Rattle.warehouse_core.proofs.Stored.{new_due, hung_on}
 use Rattle.warehouse_core.proofs.saving.save.Goals as goal

@@ -2,7 +2,7 @@ use Rattle.std.proofs.Common.{◌∙◌, false, refl, ap, sym}
 use Rattle.vec_record.specs.Distance.{distance_of}
 use Rattle.vec_record.specs.Limits.{width_of}
 use Rattle.page_layout.specs.Heads.{Values, plain, values_of}
-use Rattle.store_image.specs.Images.{Image, image_with}
+use Rattle.store_image.specs.Images.{image_with}
 use Rattle.warehouse_core.proofs.Alike.{lawful_width}
 use Rattle.warehouse_core.proofs.Fresh.{fresh_stands, fresh_stand_by}
 use Rattle.warehouse_core.proofs.Found.{IsDistance}
