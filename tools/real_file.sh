@@ -123,14 +123,14 @@ enter bytes
 due 0 'born\n' '' init l1 1 1 2 100
 length 32768
 bytes_at 0 010064656e737768000000000000000000000000
-bytes_at 16384 0200000000000000010000000100000001000000020000006400000000000000000000000000000000000000
+bytes_at 16384 0200000001000000010000000100000001000000020000006400000000000000000000000000000000000000
 due 0 'ok 1 +1 -0 noise 1 created 0 absorbed 0 merged 0 removed 0 reduced 0 split 0\n' \
     'batch\n+,3,9\nend\n' serve
-length 81936
-bytes_at 0 010064656e73776800c000000000000002000000
-bytes_at 16384 0300000000000000010000000100000001000000020000006400000001000000010000000000000000000000
+length 114712
+bytes_at 0 010064656e737768000001000000000003000000
+bytes_at 16384 040000000100000001000000010000000100000002000000640000000100000001000000c000000001000000
 bytes_at 32768 01000000000000000000000000000000
-bytes_at 32784 0300000000000000000000000000000009
+bytes_at 32784 0300000001000000000000000000000009
 
 # Files that are no stores.
 enter zeros
@@ -220,7 +220,7 @@ ended 3 "$(cat "$work/status")" '' 'a session whose reader goes away'
 advice 'standard output: Broken pipe'
 unchanged 'a reader that goes away'
 
-# The file taken away, a folder in its place, and the file cut short. Behind 49,152 bytes stand redo items that are done.
+# The file taken away, a folder in its place, and the file cut short. Behind 65,536 bytes stand redo items that are done.
 store taken
 mv warehouse.idb aside
 due 6 'blank store\n' 'report\n' serve
@@ -235,8 +235,8 @@ cut() {
     due "$2" "$3" 'report\n' serve
     length "$1"
 }
-cut 49152 0 "$all"
-cut 49151 7 'damaged page 1 offset 0\n'
+cut 65536 0 "$all"
+cut 65535 7 'damaged page 1 offset 0\n'
 cut 32768 7 'damaged page 1 offset 0\n'
 cut 32767 7 'foreign store\n'
 cut 2 7 'foreign store\n'
@@ -279,13 +279,13 @@ length 8192
 due 6 'blank store\n' '' serve
 due 0 'born\n' '' init l1 1 1 2 100
 cp warehouse.idb "$work/new"
-for limit in 40 60 70; do
+for limit in 40 70 90; do
     (trap '' XFSZ && ulimit -f "$limit" && printf '%b' "$five" | "$program" serve) >"$work/said" 2>"$work/errors"
     ended 3 "$?" '' "a batch within $limit units"
     advice 'warehouse.idb: File too large'
     due 0 "$none" 'report\n' serve
 done
-(ulimit -c 0 && ulimit -f 60 && printf '%b' "$five" | "$program" serve) >"$work/said" 2>/dev/null
+(ulimit -c 0 && ulimit -f 70 && printf '%b' "$five" | "$program" serve) >"$work/said" 2>/dev/null
 got=$?
 [ "$got" = 153 ] || fail "a batch that a signal cut off ended with $got and not with 153"
 due 0 "$none" 'report\n' serve
