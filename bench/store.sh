@@ -60,10 +60,10 @@ def bear(count, rows):
     os.makedirs("first")
     os.chdir("first")
     seconds([PROGRAM, "init", "l1", str(len(rows[1])), "0", "2", str(CAP)])
-    session = Session()
     for first in range(1, count + 1, PORTION):
+        session = Session()
         session.batch(insertions(range(first, min(first + PORTION, count + 1)), rows))
-    session.end()
+        session.end()
     if SQLITE:
         begin = ["create table r(n integer primary key, v blob);", "begin;"]
         whole = [f"insert into r values({n},x'{rows[n].hex()}');" for n in range(1, count + 1)]
