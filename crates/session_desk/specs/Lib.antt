@@ -11,6 +11,7 @@ pub mod Session
 pub mod Asking
 pub mod Passing
 pub mod Courses
+pub mod Costs
 pub mod Headline
 pub mod Births
 pub mod Trial

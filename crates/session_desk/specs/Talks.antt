@@ -19,6 +19,7 @@ use Rattle.session_desk.specs.Session.{Request, Answer, SessionState, behind, an
 use Rattle.session_desk.specs.Session.{is_over, text_of, accepted_by, acked, rows_after_all, requests_of, whole_requests}
 use Rattle.session_desk.specs.Asking.{asks, rest_of, is_past, AreWhole}
 use Rattle.session_desk.specs.Courses.{Course, begun, course_text}
+use Rattle.session_desk.specs.Costs.{request_work, requests_work}
 
 -- What a session goes on from: the parameters of its store, and its state.
 pub record Desk : Type 0 where
@@ -38,6 +39,13 @@ answer_on d q = answer d.values d.state q
 
 abbrev pub answers_on : Desk → List Request → List Answer
 answers_on d qs = answers d.values d.state qs
+
+-- the most distances for a request, and for requests in order
+abbrev pub work_on : Desk → Request → ℕ
+work_on d q = request_work d.values d.state q
+
+abbrev pub works_on : Desk → List Request → ℕ
+works_on d qs = requests_work d.values d.state qs
 
 -- the desk behind an answer, and behind requests
 abbrev pub desk_behind : Desk → Answer → Desk

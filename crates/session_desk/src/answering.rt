@@ -1,5 +1,7 @@
 //! The answers to the lines outside of batches.
-ghost use Rattle.std.specs.Prelude.{◌≡◌, ◌++◌, ◌≤◌, ℕ, List, false, None, IfOk, OnOk, length};
+ghost use Rattle.std.specs.Prelude.{◌≡◌, ◌++◌, ◌≤◌, ◌+◌, ◌*◌, ℕ, List, false, None, IfOk, OnOk};
+ghost use Rattle.std.specs.Prelude.{length};
+ghost use Rattle.std.specs.FinMap as maps;
 ghost use Rattle.plain_dbscan.specs.Texts.{report_text as text_of_report};
 ghost use Rattle.plain_dbscan.specs.Texts.{summary_text as text_of_summary};
 ghost use Rattle.event_feed.specs.Meanings.{meanings, slot_at};
@@ -98,8 +100,9 @@ pub fn near<M: Metric, L: Ledger>(
     steps: &mut Steps<L>,
 ) -> Result<bool, AllocError>
     requires { warehouse.now.failed ≡ false }
-    ensures { IfOk result (λ refused. IsGiven
+    ensures given { IfOk result (λ refused. IsGiven
         (near_answer warehouse.now.values warehouse.now.rows number) refused out.old out.new) }
+    ensures work { steps.new ≤ steps.old + 2 * maps.len warehouse.now.rows }
 {
     let mut numbers = Numbers::new(out.allocator());
     if !warehouse.near(number, &mut numbers, steps)? {

@@ -8,7 +8,8 @@ ghost use Rattle.warehouse_core.specs.States.{IsClustered};
 ghost use Rattle.session_desk.specs.Statuses.{is_fault};
 ghost use Rattle.session_desk.specs.Reading.{IsTaken};
 ghost use Rattle.session_desk.specs.Moments.{IsSaying, LeavesAlone};
-ghost use Rattle.session_desk.specs.Talks.{IsServing, IsTalk, desk_of};
+ghost use Rattle.session_desk.specs.Session.{requests_of};
+ghost use Rattle.session_desk.specs.Talks.{IsServing, IsTalk, desk_of, works_on};
 ghost use Rattle.session_desk.specs.Talks.{Concludes, IsCutOff, IsKept, IsEven};
 
 use crate::lines::LineReader;
@@ -89,6 +90,9 @@ fn converse<M: Metric, W: Watcher, S: Source, T: Site, L: Ledger>(
         → (result ≡ Status.SourceFault) ⊎ (result ≡ Status.Memory) → IsEven
         (desk_of W.says_after session.old.warehouse session.old.feed) (S.left source.old)
         (T.state site.old) (T.state site.new) }
+    ensures work { IsTrue S.tells → IsClustered session.old.warehouse → steps.new ≤ steps.old
+        + works_on (desk_of W.says_after session.old.warehouse session.old.feed)
+        (requests_of (S.left source.old)) }
     ensures status { (result ≡ Status.Fine) ⊎ (result ≡ Status.Refused) ⊎ (result ≡ Status.TooLong)
         ⊎ (is_fault result ≡ true) }
     ensures site { result ≡ Status.SiteFault → Rose (T.faults site.old) (T.faults site.new) }
@@ -151,6 +155,9 @@ pub fn hold_session<M: Metric, W: Watcher, S: Source, T: Site, L: Ledger>(
         → (result ≡ Status.SourceFault) ⊎ (result ≡ Status.Memory) → IsEven
         (desk_of W.says_after session.warehouse session.feed) (S.left source.old)
         (T.state site.old) (T.state site.new) }
+    ensures work { IsTrue S.tells → IsClustered session.warehouse → steps.new ≤ steps.old
+        + works_on (desk_of W.says_after session.warehouse session.feed)
+        (requests_of (S.left source.old)) }
     ensures status { (result ≡ Status.Fine) ⊎ (result ≡ Status.Refused) ⊎ (result ≡ Status.TooLong)
         ⊎ (is_fault result ≡ true) }
     ensures site { result ≡ Status.SiteFault → Rose (T.faults site.old) (T.faults site.new) }

@@ -1,11 +1,13 @@
 //! The word `serve`.
-ghost use Rattle.std.specs.Prelude.{◌≡◌, ◌≤◌, ◌<◌, ◌+◌, ◌++◌, ◌⊎◌, [], ℕ, List, Ok, None, true};
-ghost use Rattle.std.specs.Prelude.{false, IsTrue, IfOk, IfErr, MatchResult};
+ghost use Rattle.std.specs.Prelude.{◌≡◌, ◌≤◌, ◌<◌, ◌+◌, ◌*◌, ◌++◌, ◌⊎◌, [], ℕ, List, Ok, None};
+ghost use Rattle.std.specs.Prelude.{true, false, IsTrue, IfOk, IfErr, MatchResult};
+ghost use Rattle.std.specs.FinMap as maps;
 ghost use Rattle.site_disk.specs.Causes.{Rose};
 ghost use Rattle.site_disk.specs.State.{Safe, Joins};
 ghost use Rattle.page_gate.specs.Promises.{Holds, HasFault};
 ghost use Rattle.page_layout.specs.Heads.{Values};
-ghost use Rattle.store_image.specs.Loading.{load_of, Fails};
+ghost use Rattle.store_image.specs.Loading.{load_of, count_said, Fails};
+ghost use Rattle.store_image.specs.Stores.{IsSound, records_on};
 ghost use Rattle.event_feed.specs.Meanings.{meanings, filled};
 ghost use Rattle.warehouse_core.specs.States.{IsClustered};
 ghost use Rattle.session_desk.specs.Moments.{IsSaying};
@@ -13,7 +15,9 @@ ghost use Rattle.session_desk.specs.Statuses.{is_fault};
 ghost use Rattle.session_desk.specs.Reading.{IsTaken};
 ghost use Rattle.session_desk.specs.Headline.{Serves, IsComplete, LeavesUnopened, HasDueLines};
 ghost use Rattle.session_desk.specs.Talks.{IsServing, IsTalk, Concludes, IsCutOff, IsKept, IsEven};
-ghost use Rattle.session_desk.specs.Talks.{desk_of};
+ghost use Rattle.session_desk.specs.Session.{requests_of};
+ghost use Rattle.session_desk.specs.Costs.{session_work};
+ghost use Rattle.session_desk.specs.Talks.{desk_of, works_on};
 ghost use Rattle.session_desk.specs.Opened.{state_of, is_outside, fault_of as fault_said};
 ghost use Rattle.session_desk.specs.Opened.{refusal_course, IsLoaded, Loads};
 
@@ -28,7 +32,7 @@ use page_gate::{OpenFault, Pages, open_pages};
 use site_disk::{Site, Source};
 use std::alloc::Global;
 use std::sync::ledger::Ledger;
-use store_image::laws::{loads_are_stores, same_openings_are_alike};
+use store_image::laws::{loads_are_stores, loads_count_records, same_openings_are_alike};
 use store_image::{StoreFault, read_params};
 use vec_record::{MetricKind, Steps};
 use warehouse_core::Warehouse;
@@ -49,6 +53,7 @@ fn load<L: Ledger>(
 ) -> Result<AnyWarehouse, StoreFault>
     ensures loaded { MatchResult result (λ w. IsLoaded pages.list (state_of w))
         (λ e. Fails e (load_of pages.list)) }
+    ensures bounded { steps.new ≤ steps.old + 8 * count_said pages.list }
 {
     match read_params(&pages)?.metric {
         MetricKind::L1 => Ok(AnyWarehouse::L1(Warehouse::load(alloc, pages, steps)?)),
@@ -76,7 +81,10 @@ fn begin<T: Site, L: Ledger>(
     ensures serving { IfOk result (λ w. IsServing (state_of w)) }
     ensures cause { HasFault (T.faults site.old) (T.faults site.new) result }
     ensures told { IsTrue T.tells → Loads result (T.state site.old) (T.state site.new) }
+    ensures work { IsTrue T.tells → IsSound (T.state site.old).content
+        → steps.new ≤ steps.old + 8 * maps.len (records_on (T.state site.old).content) }
 {
+    loads_count_records();
     loads_are_stores();
     let pages = open_pages(alloc, site)?;
     match load(alloc, pages, steps) {
@@ -168,6 +176,10 @@ fn converse_by_metric<W: Watcher, S: Source, T: Site, L: Ledger>(
         → (result ≡ Status.SourceFault) ⊎ (result ≡ Status.Memory) → IsEven
         (desk_of W.says_after (state_of session.warehouse) session.feed) (S.left source.old)
         (T.state site.old) (T.state site.new) }
+    ensures work { IsTrue S.tells → IsClustered (state_of session.warehouse)
+        → steps.new ≤ steps.old
+        + works_on (desk_of W.says_after (state_of session.warehouse) session.feed)
+        (requests_of (S.left source.old)) }
     ensures status { (result ≡ Status.Fine) ⊎ (result ≡ Status.Refused) ⊎ (result ≡ Status.TooLong)
         ⊎ (is_fault result ≡ true) }
     ensures site { result ≡ Status.SiteFault → Rose (T.faults site.old) (T.faults site.new) }
@@ -232,6 +244,9 @@ fn serve_slots<W: Watcher, S: Source, T: Site, L: Ledger>(
         → (Rose (S.faults source.old) (S.faults source.new) → ⊥)
         → (Rose (T.faults site.old) (T.faults site.new) → ⊥) → IsComplete
         (meanings W.says_after feed.slots.items) (S.left source.old) result (T.state site.old) }
+    ensures work { IsTrue S.tells → IsTrue T.tells → IsSound (T.state site.old).content
+        → steps.new ≤ steps.old + session_work (T.state site.old).content
+        (meanings W.says_after feed.slots.items) (S.left source.old) }
     ensures unopened { IsTrue T.tells
         → LeavesUnopened result (T.state site.old) (T.state site.new) }
     ensures known { result ≡ Status.Words → ⊥ }
@@ -280,6 +295,9 @@ pub fn serve<S: Source, T: Site, L: Ledger>(
         → (Rose (T.faults site.old) (T.faults site.new) → ⊥) → IsComplete
         (filled ⟦<Box<dyn Watcher> as Watcher>⟧.says_after watchers.items) (S.left source.old)
         result (T.state site.old) }
+    ensures work { IsTrue S.tells → IsTrue T.tells → IsSound (T.state site.old).content
+        → steps.new ≤ steps.old + session_work (T.state site.old).content
+        (filled ⟦<Box<dyn Watcher> as Watcher>⟧.says_after watchers.items) (S.left source.old) }
     ensures unopened { IsTrue T.tells
         → LeavesUnopened result (T.state site.old) (T.state site.new) }
     ensures known { result ≡ Status.Words → ⊥ }

@@ -1,6 +1,6 @@
 //! The state of a session, and the answer to one request.
-ghost use Rattle.std.specs.Prelude.{◌≡◌, ◌≤◌, ◌++◌, ◌⊎◌, ℕ, List, Bool, true, false, Ok, Err, None};
-ghost use Rattle.std.specs.Prelude.{IsTrue, IfOk, IfErr, OnOk, length};
+ghost use Rattle.std.specs.Prelude.{◌≡◌, ◌≤◌, ◌+◌, ◌++◌, ◌⊎◌, ℕ, List, Bool, true, false, Ok};
+ghost use Rattle.std.specs.Prelude.{Err, None, IsTrue, IfOk, IfErr, OnOk, length};
 ghost use Rattle.site_disk.specs.Causes.{Rose};
 ghost use Rattle.site_disk.specs.State.{Safe, Joins};
 ghost use Rattle.page_gate.specs.Promises.{Holds};
@@ -8,7 +8,8 @@ ghost use Rattle.warehouse_core.specs.States.{IsClustered};
 ghost use Rattle.session_desk.specs.Session.{Request};
 ghost use Rattle.session_desk.specs.Asking.{IsAsked};
 ghost use Rattle.session_desk.specs.Talks.{IsServing, IsJudged, IsAnswered, Answering, desk_of};
-ghost use Rattle.session_desk.specs.Talks.{answer_on, desk_behind, IsReplying, IsStoreOf};
+ghost use Rattle.session_desk.specs.Talks.{answer_on, desk_behind, IsReplying, IsStoreOf, work_on};
+ghost use Rattle.session_desk.specs.Costs.{line_work};
 
 use crate::answering::{cluster, drop_watcher, label, near, refuse, report, summary, watch};
 use crate::requests::{Asked, Line};
@@ -59,6 +60,7 @@ impl<M: Metric, W: Watcher> Session<M, W> {
             (desk_of W.says_after self.old.warehouse self.old.feed) (Request.Ask line) refused
             (desk_of W.says_after self.new.warehouse self.new.feed) out.old out.new) }
         ensures warehouse { self.new.warehouse ≡ self.old.warehouse }
+        ensures work { steps.new ≤ steps.old + line_work self.old.warehouse.rows line }
     {
         let warehouse = &self.warehouse;
         match line {
@@ -100,6 +102,9 @@ impl<M: Metric, W: Watcher> Session<M, W> {
             → Answering
             (desk_of W.says_after self.old.warehouse self.old.feed) (Request.Batch lines) result
             (T.state site.old) (T.state site.new) }
+        ensures work { IsClustered self.old.warehouse → (lines : List (List ℕ))
+            → IsAsked (Asked.Batch body.now) (Request.Batch lines) → steps.new ≤ steps.old
+            + work_on (desk_of W.says_after self.old.warehouse self.old.feed) (Request.Batch lines) }
         ensures joins { IsTrue T.tells → Joins (T.state site.old) (T.state site.new) }
         ensures said { IsTrue T.tells → (T.state site.new).said ≡ (T.state site.old).said }
         ensures status { IfErr result
@@ -141,6 +146,9 @@ impl<M: Metric, W: Watcher> Session<M, W> {
             → IsAsked asked q → Answering
             (desk_of W.says_after self.old.warehouse self.old.feed) q result (T.state site.old)
             (T.state site.new) }
+        ensures work { IsClustered self.old.warehouse → (q : Request) → IsAsked asked q
+            → steps.new ≤ steps.old
+            + work_on (desk_of W.says_after self.old.warehouse self.old.feed) q }
         ensures joins { IsTrue T.tells → Joins (T.state site.old) (T.state site.new) }
         ensures said { IsTrue T.tells → (T.state site.new).said ≡ (T.state site.old).said }
         ensures status { IfErr result
@@ -188,6 +196,9 @@ impl<M: Metric, W: Watcher> Session<M, W> {
             → IsAsked asked q → Safe (T.state site.old) (T.state site.new)
             (IsReplying (desk_of W.says_after self.old.warehouse self.old.feed) q
             (T.state site.old)) }
+        ensures work { IsClustered self.old.warehouse → (q : Request) → IsAsked asked q
+            → steps.new ≤ steps.old
+            + work_on (desk_of W.says_after self.old.warehouse self.old.feed) q }
         ensures unsaved { IsTrue T.tells → IsClustered self.old.warehouse → (q : Request)
             → IsAsked asked q → result ≡ Err Status.Memory → (c : List ℕ)
             → (T.state site.new).may_leave c

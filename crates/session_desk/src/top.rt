@@ -15,7 +15,9 @@ ghost use Rattle.session_desk.specs.Trial.{trial_text, trial_work};
 ghost use Rattle.session_desk.specs.Reading.{IsTaken};
 ghost use Rattle.session_desk.specs.Answers.{usage_text, answer_of};
 ghost use Rattle.session_desk.specs.Births.{birth_due, IsBirthMoment, IsBorn};
+ghost use Rattle.store_image.specs.Stores.{IsSound};
 ghost use Rattle.session_desk.specs.Headline.{Serves, IsComplete, LeavesUnopened, HasDueLines};
+ghost use Rattle.session_desk.specs.Costs.{session_work};
 
 use crate::birth::init;
 use crate::once::run_once;
@@ -63,6 +65,13 @@ pub fn run<S: Source, T: Site, L: Ledger>(
         → (Rose (T.faults site.old) (T.faults site.new) → ⊥)
         → IsComplete (filled ⟦<Box<dyn Watcher> as Watcher>⟧.says_after watchers.items)
         (S.left source.old) result (T.state site.old) }
+    // How many distances it takes: eight for each record that a sound store opens with, the work of
+    // each accepted batch, and two for each record there at a line `near`.
+    ensures work { IsTrue S.tells → IsTrue T.tells
+        → command_of (map string_bytes words.now) ≡ Some Serve
+        → IsSound (T.state site.old).content
+        → steps.new ≤ steps.old + session_work (T.state site.old).content
+        (filled ⟦<Box<dyn Watcher> as Watcher>⟧.says_after watchers.items) (S.left source.old) }
     ensures unopened { IsTrue T.tells → command_of (map string_bytes words.now) ≡ Some Serve
         → LeavesUnopened result (T.state site.old) (T.state site.new) }
     ensures ended { IsTrue S.tells → command_of (map string_bytes words.now) ≡ Some Serve
