@@ -15,6 +15,7 @@ pub mod LoadParts
 pub mod LoadFinding
 pub mod LoadChecks
 pub mod LoadFacts
+pub mod StoreCounts
 pub mod PlanFilling
 pub mod PlanWrites
 pub mod PlanBodies

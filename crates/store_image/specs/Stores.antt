@@ -15,7 +15,7 @@ use Rattle.store_image.specs.declared.fault.StoreFault.{StoreFault}
 use Rattle.store_image.specs.declared.fault.StoreFault.TheVariants.{Foreign, Damaged, Memory}
 use Rattle.kept_clusters.specs.Kept.{Kept, Stand, nothing_kept}
 use Rattle.store_image.specs.Images.{Image, image_with, vectors_of, lines_of}
-use Rattle.store_image.specs.Loading.{load_of}
+use Rattle.store_image.specs.Loading.{load_of, count_said}
 use Rattle.store_image.specs.Clustered.{AreDue}
 use Rattle.stored_lines.specs.Laws.{AreHung}
 
@@ -139,6 +139,12 @@ abbrev pub DueLinesStand : Type 0
 DueLinesStand =
     (pages : List (List ℕ)) (image : Image) → load_of pages ≡ Ok image
     → AreDueIn pages ↔ Stand (distance_of image.head.values.metric) image.records image.kept
+
+-- a list of pages that loads has as many records as page 1 says
+abbrev pub LoadsCountRecords : Type 0
+LoadsCountRecords =
+    (pages : List (List ℕ)) (image : Image) → load_of pages ≡ Ok image
+    → count_said pages ≡ map.len image.records.vectors
 
 -- clusters whose lines are due hang on cores
 abbrev pub StandingAreHung : Type 0

@@ -3,6 +3,7 @@
 ghost use Rattle.store_image.specs.Stores.{SameOpeningsAreAlike, LoadsAreStores, NewStoresLoad};
 ghost use Rattle.store_image.specs.Stores.{NewStoresAreDue, HeadsCountPages, DueLinesStand};
 ghost use Rattle.store_image.specs.Stores.{StandingAreHung, RefusalsAreOfContents};
+ghost use Rattle.store_image.specs.Stores.{LoadsCountRecords};
 
 use page_layout::laws::{heads_have_one_spelling, written_are_pages};
 
@@ -28,6 +29,11 @@ pub fn due_lines_stand()
 /// Clusters that stand for records hang on cores.
 pub fn standing_are_hung()
     ensures { StandingAreHung }
+{}
+
+/// A list of pages that loads has as many records as its head page says.
+pub fn loads_count_records()
+    ensures { LoadsCountRecords }
 {}
 
 /// The head page of a new store, alone, loads as no records, and has no line that isn't due.
