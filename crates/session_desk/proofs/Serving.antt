@@ -9,7 +9,9 @@ use Rattle.vec_record.specs.Held.{Rows}
 use Rattle.site_disk.specs.State.{SiteState, IsNow, Safe}
 use Rattle.site_disk.proofs.Moments.{start}
 use Rattle.site_disk.specs.Causes.{Rose}
-use Rattle.page_gate.specs.Gate.{opening, Opening, Opens}
+use Rattle.std.specs.FinMap as maps
+use Rattle.page_gate.specs.Gate.{opening, Opening, Opens, Refuses, is_blank, through}
+use Rattle.page_gate.proofs.Gates.{says_blank}
 use Rattle.page_gate.specs.Promises.{IsAsWas, IsRefusal}
 use Rattle.page_gate.specs.declared.fault.OpenFault.{OpenFault}
 use Rattle.page_gate.specs.declared.fault.OpenFault.TheVariants.{Blank, Foreign, Damaged, SiteFault, Memory}
@@ -18,8 +20,8 @@ use Rattle.event_feed.specs.Meanings.{Slots}
 use Rattle.store_image.specs.declared.fault.StoreFault as store
 use Rattle.store_image.specs.declared.fault.StoreFault.TheVariants as store_fault
 use Rattle.store_image.specs.Images.{Image}
-use Rattle.store_image.specs.Loading.{and_then, values_of_head, head_in_pages, params_in_pages, load_of, Fails}
-use Rattle.store_image.specs.Stores.{IsStore, IsSound, AreDueIn, AreDueBy, AreDueOn, SameOpeningsAreAlike, LoadsAreStores, refusal_on, batches_on, verdict, refusal_of}
+use Rattle.store_image.specs.Loading.{and_then, values_of_head, head_in_pages, params_in_pages, load_of, count_said, Fails}
+use Rattle.store_image.specs.Stores.{IsStore, IsSound, AreDueIn, AreDueBy, AreDueOn, SameOpeningsAreAlike, LoadsAreStores, LoadsCountRecords, refusal_on, records_on, batches_on, verdict, refusal_of}
 use Rattle.warehouse_core.specs.States.{State, LoadsAs}
 use Rattle.session_desk.specs.declared.status.Status.{Status}
 use Rattle.session_desk.specs.declared.status.Status.TheVariants as status
@@ -28,7 +30,8 @@ use Rattle.session_desk.specs.Moments.{IsSaying}
 use Rattle.session_desk.specs.Session.{Answer, Request, SessionState, answers, text_of, accepted_by, acked, rows_after_all, requests_of, whole_requests}
 use Rattle.session_desk.specs.Courses.{Course, course_text, course_by, begun, session, values_on, state_on, accepted}
 use Rattle.session_desk.specs.Headline.{IsStoreAfter, IsMoment, SaysAll, SaysWhole, KeepsAll, IsSettled, IsUntouched, Serves}
-use Rattle.session_desk.specs.Talks.{IsServing, desk_at, answers_on, talk, IsStoreAt, IsTalk, Concludes, IsKept, IsCutOff, IsEven}
+use Rattle.session_desk.specs.Costs.{requests_work}
+use Rattle.session_desk.specs.Talks.{IsServing, works_on, desk_at, answers_on, talk, IsStoreAt, IsTalk, Concludes, IsKept, IsCutOff, IsEven}
 use Rattle.session_desk.specs.Opened.{is_outside, fault_of, refusal_course, IsLoaded, IsStoreAsIs}
 use Rattle.session_desk.proofs.LifeLaws.{acked-none}
 use Rattle.session_desk.proofs.Going.{safe_as, then_safe, then_said}
@@ -353,3 +356,39 @@ never-unopened {P} result (inr (inr (inl long))) (inl blank) = absurd (cc (long,
 never-unopened {P} result (inr (inr (inl long))) (inr broken) = absurd (cc (long, broken))
 never-unopened {P} result (inr (inr (inr fault))) (inl blank) = let e = ap is_fault blank in absurd (cc (fault, e))
 never-unopened {P} result (inr (inr (inr fault))) (inr broken) = let e = ap is_fault broken in absurd (cc (fault, e))
+
+-- ---- how many distances
+
+blank-shut : (c : List ℕ) (pages : List (List ℕ)) → is_blank c ≡ true → opening c ≡ Opens pages → ⊥
+unfolding is_blank opening through
+blank-shut c pages blank opens =
+    let refused : opening c ≡ Refuses Blank = ap (λ g. through g c) (says_blank (length c) c blank) in
+    absurd (cc (refused, opens))
+
+went-well : (r : Result Image store.StoreFault) → refusal_of r ≡ None → (image : Image) × (r ≡ Ok image)
+went-well (Ok image) is = (image, refl)
+went-well (Err store_fault.Foreign) is = absurd (cc is)
+went-well (Err (store_fault.Damaged page offset)) is = absurd (cc is)
+went-well (Err store_fault.Memory) is = absurd (cc is)
+
+opened-verdict : (c : List ℕ) (pages : List (List ℕ)) → refusal_on c ≡ None → opening c ≡ Opens pages → refusal_of (load_of pages) ≡ None
+unfolding refusal_on
+opened-verdict c pages is opens = sym (ap verdict opens) ∙ is
+
+-- page 1 of a sound store counts its records
+pub said-records : LoadsAreStores → LoadsCountRecords → (c : List ℕ) (pages : List (List ℕ)) → opening c ≡ Opens pages → IsSound c → count_said pages ≡ maps.len (records_on c)
+said-records stores counted c pages opens sound =
+    let P : Opening → Type 0 = λ o. AreDueBy o in
+    let due : AreDueIn pages = subst P opens sound.due in
+    let none : refusal_on c ≡ None = ⊎_elim (λ blank. absurd (blank-shut c pages blank opens)) (λ is. is) sound.begins in
+    let image = went-well (load_of pages) (opened-verdict c pages none opens) in
+    let store = stores c pages image.0 opens image.1 due in
+    counted pages image.0 image.1 ∙ ap (λ (r : Rows). maps.len r) (sym store.records)
+
+-- what the requests of a session may take, over the warehouse and over the content
+pub works-are : (w : State) (watchers : Slots) (c : List ℕ) (qs : List Request) → IsStore w.values w.rows w.batches c → works_on (desk_at w watchers) qs ≡ requests_work (values_on c) (state_on c watchers) qs
+works-are w watchers c qs store =
+    sym (
+    ap (λ (v : Values). requests_work v (state_on c watchers) qs) (values-are w c store)
+    ∙ ap (λ (r : Rows). requests_work w.values (state_of r (batches_on c) watchers) qs) store.records
+    ∙ ap (λ (n : ℕ). requests_work w.values (state_of w.rows n watchers) qs) store.batches_are)

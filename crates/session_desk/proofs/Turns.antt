@@ -27,7 +27,7 @@ use Rattle.session_desk.specs.declared.reading.ReadFault.TheVariants as read_fau
 use Rattle.session_desk.specs.Asking.{Asks, IsAsked, asks, rest_of, is_past, AreWhole, IsNext, IsBroken}
 use Rattle.session_desk.specs.Session.{Request, Answer, is_over, text_of, in_list, accepted_by, acked, rows_after_all, requests_of, whole_requests}
 use Rattle.session_desk.specs.Courses.{course_text}
-use Rattle.session_desk.specs.Talks.{Desk, desk_at, desk_behind, desk_after, IsServing, answer_on, answers_on, IsStoreOf, IsReplying, talk, IsStoreAt, IsTalk, IsRead, IsToldOf, IsGoing, Concludes, IsKept, IsCutOff, IsEven}
+use Rattle.session_desk.specs.Talks.{work_on, works_on, Desk, desk_at, desk_behind, desk_after, IsServing, answer_on, answers_on, IsStoreOf, IsReplying, talk, IsStoreAt, IsTalk, IsRead, IsToldOf, IsGoing, Concludes, IsKept, IsCutOff, IsEven}
 use Rattle.session_desk.proofs.LifeLaws.{none-given}
 use Rattle.session_desk.proofs.Going.{safe_as, then_safe, then_said}
 use Rattle.session_desk.proofs.Replies.{rest-store, desk-store}
@@ -204,6 +204,24 @@ begins-going stores tells w slots input a now serving stand holds =
         safe = start (now t) (λ c left. at-rest d input a [] (asks input_limit input) are a.said c (sym (append-nil a.said)) (rest-store stores w a serving stand (holds t) c left));
       };
     }
+
+-- what the session may take is what the requests to come may, from where it stands
+pub pays-first : (d : Desk) (input : List ℕ) (n : ℕ) → n + works_on d (asks fresh.room (rest_of fresh input)) ≤ n + works_on d (requests_of input)
+pays-first d input n =
+    let same : works_on d (asks input_limit input) ≡ works_on d (requests_of input) = ap (works_on d) (asks_all input) in
+    omega (arith, same)
+
+module _ (d : Desk) (q : Request) (now more : List Request) (before after bound : ℕ) (are : now ≡ q ∷ more) (paid : after ≤ before + work_on d q) (left : before + works_on d now ≤ bound) where
+    pub pays-on : (next : Desk) → next ≡ desk_behind d (answer_on d q) → after + works_on next more ≤ bound
+    pays-on next desk =
+        let one : works_on d now ≡ work_on d q + works_on (desk_behind d (answer_on d q)) more = ap (works_on d) are in
+        let two : works_on next more ≡ works_on (desk_behind d (answer_on d q)) more = ap (λ (x : Desk). works_on x more) desk in
+        omega (arith, one, two, paid, left)
+
+    pub pays-last : after ≤ bound
+    pays-last =
+        let one : works_on d now ≡ work_on d q + works_on (desk_behind d (answer_on d q)) more = ap (works_on d) are in
+        omega (arith, one, paid, left)
 
 -- and after each a request more
 next-asked : (input : List ℕ) (asked : List Request) (r new : Reading) (left left' : List ℕ) (q : Request) → IsRead input asked r left → IsNext q r left new left' → requests_of input ≡ asked ++ (q ∷ asks new.room (rest_of new left'))

@@ -1,13 +1,15 @@
-use Rattle.std.proofs.Common.{rules, ◌≡◌, ⊎_elim, Bool, false, [], ◌∷◌, ◌++◌, Err, refl, sym, ap, subst, ◌∙◌}
+use Rattle.std.proofs.Common.{rules, arith, ◌≡◌, ◌+◌, ◌≤◌, ⊎_elim, Bool, false, [], ◌∷◌, ◌++◌, Err, refl, sym, ap, subst, ◌∙◌}
 use Rattle.std.specs.Prelude.{◌||◌}
 use Rattle.site_disk.specs.State.{Safe}
 use Rattle.site_disk.proofs.Moments.{joins_start, joins_on}
 use Rattle.session_desk.specs.declared.status.Status.TheVariants as status
 use Rattle.event_feed.specs.Meanings.{meanings}
 use Rattle.session_desk.specs.Lines.{Reading}
-use Rattle.session_desk.specs.Talks.{desk_at, IsRead, IsGoing, IsTalk, IsCutOff, IsEven}
+use Rattle.session_desk.specs.Asking.{asks, rest_of}
+use Rattle.session_desk.specs.Session.{requests_of}
+use Rattle.session_desk.specs.Talks.{works_on, desk_at, IsRead, IsGoing, IsTalk, IsCutOff, IsEven}
 use Rattle.session_desk.proofs.Replies.{rest-store}
-use Rattle.session_desk.proofs.Turns.{begins-reading, begins-going, reads-on, goes-on, turn-failed, ends-fine, ends-too-long, too-long-moments, all-kept, even-out, cut-off, taken, some-asked, none-asked, too-much, broken-off, is-too-much, more-on, holds-on, too-long-only}
+use Rattle.session_desk.proofs.Turns.{pays-first, pays-on, pays-last, begins-reading, begins-going, reads-on, goes-on, turn-failed, ends-fine, ends-too-long, too-long-moments, all-kept, even-out, cut-off, taken, some-asked, none-asked, too-much, broken-off, is-too-much, more-on, holds-on, too-long-only}
 use Rattle.session_desk.proofs.converse.converse.Goals as goal
 use Rattle.session_desk.proofs.converse.converse.Goals.{then-refused, else-refused}
 
@@ -38,6 +40,11 @@ turns-init g c = record {
       let a = g.T.Site.state c.args.site.now in
       let P : Reading → Type 0 = λ r. IsGoing g.T.Site.tells (desk_at w slots) input a false (desk_at w slots) r input a in
       subst P (sym c.in-Ok.ensures) (begins-going c.loads_are_stores.ensures g.T.Site.tells w slots input a (λ u. g.met.T.Site.is_now c.args.site.now u) c.requires.serving stand c.requires.ready);
+  paid = λ s stand.
+      let d = desk_at c.args.session.now.warehouse (meanings g.W.Watcher.says_after c.args.session.now.feed.slots.items) in
+      let input = g.S.Source.left c.args.source.now in
+      let P : Reading → Type 0 = λ r. c.args.steps.now + works_on d (asks r.room (rest_of r input)) ≤ c.args.steps.now + works_on d (requests_of input) in
+      subst P (sym c.in-Ok.ensures) (pays-first d input c.args.steps.now);
   serving = c.requires.serving;
   clustered = λ stand. stand;
   ready = c.requires.ready;
@@ -85,6 +92,16 @@ turns-preserved g c = record {
       (goes-on g.T.Site.tells d next last input a b e c.turns.refused c.in-Ok-step.refuses c.turns.reader c.next_request.new.reader left left' q going asked.2
       (c.next_request.ensures.same_source s source) c.next_request.ensures.ended (c.in-Ok-step.ensures.desk (c.turns.invariant.clustered stand) q asked.1) (c.in-Ok-step.ensures.refused (c.turns.invariant.clustered stand) q asked.1)
       (λ t. (c.step.ensures.moments t (c.turns.invariant.clustered stand) q asked.1, c.in-Ok-step.ensures.said t (c.turns.invariant.clustered stand) q asked.1)));
+  paid = λ s stand.
+      let here = c.turns.invariant.clustered stand in
+      let d = desk_at c.turns.session.warehouse (meanings g.W.Watcher.says_after c.turns.session.feed.slots.items) in
+      let last = desk_at c.step.new.self.warehouse (meanings g.W.Watcher.says_after c.step.new.self.feed.slots.items) in
+      let left = g.S.Source.left c.turns.source in
+      let left' = g.S.Source.left c.next_request.new.source in
+      let reads = c.turns.invariant.reads s in
+      let next = some-asked c.in-Ok-Some.field-0 c.in-Ok-Some.asked c.turns.reader c.next_request.new.reader left left' c.in-Ok-Some.field-0-is (c.in-Ok-Some.ensures.told s reads.1.same_source) in
+      pays-on d next.0 (asks c.turns.reader.room (rest_of c.turns.reader left)) (asks c.next_request.new.reader.room (rest_of c.next_request.new.reader left')) c.turns.steps c.step.new.steps _ next.2.asked
+      (c.step.ensures.work here next.0 next.1) (c.turns.invariant.paid s stand) last (c.in-Ok-step.ensures.desk here next.0 next.1);
   serving = search rules;
   clustered = λ stand. c.in-Ok-step.ensures.clustered (c.turns.invariant.clustered stand);
   ready = search rules;
@@ -230,3 +247,23 @@ returns-in-Err-clause-joins g c = λ t. joins_on (g.T.Site.state c.args.site.now
 
 pub returns-in_default-clause-joins : goal.returns-in_default-clause-joins
 returns-in_default-clause-joins g c = λ t. joins_start (g.T.Site.state c.args.site.now) (g.met.T.Site.is_now c.args.site.now t)
+
+pub returns-in-Err-step-clause-work : goal.returns-in-Err-step-clause-work
+returns-in-Err-step-clause-work g c = λ s stand.
+    let here = c.turns.invariant.clustered stand in
+    let d = desk_at c.turns.session.warehouse (meanings g.W.Watcher.says_after c.turns.session.feed.slots.items) in
+    let left = g.S.Source.left c.turns.source in
+    let left' = g.S.Source.left c.next_request.new.source in
+    let reads = c.turns.invariant.reads s in
+    let next = some-asked c.in-Ok-Some.field-0 c.in-Ok-Some.asked c.turns.reader c.next_request.new.reader left left' c.in-Ok-Some.field-0-is (c.in-Ok-Some.ensures.told s reads.1.same_source) in
+    pays-last d next.0 (asks c.turns.reader.room (rest_of c.turns.reader left)) (asks c.next_request.new.reader.room (rest_of c.next_request.new.reader left')) c.turns.steps c.step.new.steps _ next.2.asked
+    (c.step.ensures.work here next.0 next.1) (c.turns.invariant.paid s stand)
+
+pub returns-in-Ok-None-clause-work : goal.returns-in-Ok-None-clause-work
+returns-in-Ok-None-clause-work g c = λ s stand. let paid = c.turns.invariant.paid s stand in omega (arith, paid)
+
+pub returns-in-Err-clause-work : goal.returns-in-Err-clause-work
+returns-in-Err-clause-work g c = λ s stand. let paid = c.turns.invariant.paid s stand in omega (arith, paid)
+
+pub returns-in_default-clause-work : goal.returns-in_default-clause-work
+returns-in_default-clause-work g c = λ s stand. omega arith

@@ -1,10 +1,11 @@
-use Rattle.std.proofs.Common.{◌≡◌, ◌≤◌, ◌++◌, List, ℕ, false, IsTrue}
+use Rattle.std.proofs.Common.{◌≡◌, ◌≤◌, ◌+◌, ◌++◌, List, ℕ, false, IsTrue}
 use Rattle.site_disk.specs.State.{Joins}
 use Rattle.page_gate.specs.Promises.{Holds}
 use Rattle.warehouse_core.specs.States.{IsClustered}
-use Rattle.session_desk.specs.Session.{Request}
+use Rattle.session_desk.specs.Session.{Request, requests_of}
+use Rattle.session_desk.specs.Asking.{asks, rest_of}
 use Rattle.event_feed.specs.Meanings.{meanings}
-use Rattle.session_desk.specs.Talks.{desk_at, IsServing, IsRead, IsGoing}
+use Rattle.session_desk.specs.Talks.{desk_at, works_on, IsServing, IsRead, IsGoing}
 use Rattle.session_desk.proofs.converse.converse.Given as goal
 
 -- what was read so far is answered and said
@@ -14,6 +15,9 @@ invariant-turns g l = record {
   going : IsTrue g.S.Source.tells → IsClustered l.fn.session.warehouse
       → IsGoing g.T.Site.tells (desk_at l.fn.session.warehouse (meanings g.W.Watcher.says_after l.fn.session.feed.slots.items)) (g.S.Source.left l.fn.source) (g.T.Site.state l.fn.site) l.refused
       (desk_at l.session.warehouse (meanings g.W.Watcher.says_after l.session.feed.slots.items)) l.reader (g.S.Source.left l.source) (g.T.Site.state l.site);
+  paid : IsTrue g.S.Source.tells → IsClustered l.fn.session.warehouse
+      → l.steps + works_on (desk_at l.session.warehouse (meanings g.W.Watcher.says_after l.session.feed.slots.items)) (asks l.reader.room (rest_of l.reader (g.S.Source.left l.source)))
+      ≤ l.fn.steps + works_on (desk_at l.fn.session.warehouse (meanings g.W.Watcher.says_after l.fn.session.feed.slots.items)) (requests_of (g.S.Source.left l.fn.source));
   serving : IsServing l.session.warehouse;
   clustered : IsClustered l.fn.session.warehouse → IsClustered l.session.warehouse;
   ready : IsTrue g.T.Site.tells → Holds l.session.warehouse.pages (g.T.Site.state l.site);

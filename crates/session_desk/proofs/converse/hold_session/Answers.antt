@@ -41,3 +41,6 @@ returns-clause-source_later g c = c.converse.ensures.source_later
 
 pub returns-clause-site_later : goal.returns-clause-site_later
 returns-clause-site_later g c = c.converse.ensures.site_later
+
+pub returns-clause-work : goal.returns-clause-work
+returns-clause-work g c = c.converse.ensures.work

@@ -1,11 +1,11 @@
-use Rattle.std.proofs.Common.{◌≡◌, ◌∙◌, sym, ap, subst, List, ℕ, Err, Result}
+use Rattle.std.proofs.Common.{arith, ◌≡◌, ◌∙◌, sym, ap, subst, List, ℕ, Err, Result}
 use Rattle.std.proofs.lemmas.Result.{err_from_is_err_and}
 use Rattle.page_gate.specs.Gate.{opening}
 use Rattle.page_gate.specs.Promises.{Holds}
 use Rattle.page_gate.specs.declared.fault.OpenFault.{OpenFault}
 use Rattle.session_desk.specs.declared.serve.AnyWarehouse.{AnyWarehouse}
 use Rattle.session_desk.specs.Opened.{state_of, Loads}
-use Rattle.session_desk.proofs.Serving.{gate-verdict, load-verdict, loaded-opens, loaded-store, loaded-serving}
+use Rattle.session_desk.proofs.Serving.{said-records, gate-verdict, load-verdict, loaded-opens, loaded-store, loaded-serving}
 use Rattle.session_desk.proofs.serve.begin.Goals as goal
 
 pub returns-in_err-pages-clause-told : goal.returns-in_err-pages-clause-told
@@ -48,3 +48,16 @@ returns-in-Err-clause-told g c = λ t.
 
 pub returns-in-Ok-clause-serving : goal.returns-in-Ok-clause-serving
 returns-in-Ok-clause-serving g c = loaded-serving c.in_ok-pages.pages.list (state_of c.in-Ok.warehouse) c.in-Ok.ensures.loaded
+
+pub returns-in_err-pages-clause-work : goal.returns-in_err-pages-clause-work
+returns-in_err-pages-clause-work g c = λ t sound. omega arith
+
+pub returns-in-Ok-clause-work : goal.returns-in-Ok-clause-work
+returns-in-Ok-clause-work g c = λ t sound.
+    let said = said-records c.loads_are_stores.ensures c.loads_count_records.ensures (g.T.Site.state c.args.site.now).content c.in_ok-pages.pages.list (c.in_ok-pages.ensures.told t).list sound in
+    omega (arith, said, c.load.ensures.bounded)
+
+pub returns-in-Err-clause-work : goal.returns-in-Err-clause-work
+returns-in-Err-clause-work g c = λ t sound.
+    let said = said-records c.loads_are_stores.ensures c.loads_count_records.ensures (g.T.Site.state c.args.site.now).content c.in_ok-pages.pages.list (c.in_ok-pages.ensures.told t).list sound in
+    omega (arith, said, c.load.ensures.bounded)

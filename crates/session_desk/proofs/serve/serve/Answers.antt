@@ -1,7 +1,8 @@
-use Rattle.std.proofs.Common.{subst}
+use Rattle.std.proofs.Common.{◌≤◌, ◌+◌, arith, subst}
 use Rattle.site_disk.proofs.Moments.{joins_start}
 use Rattle.event_feed.specs.Meanings.{Slots}
 use Rattle.session_desk.specs.Headline.{Serves, IsComplete}
+use Rattle.session_desk.specs.Costs.{session_work}
 use Rattle.session_desk.proofs.Serving.{serves-nothing, untouched-still}
 use Rattle.session_desk.proofs.serve.serve.Goals as goal
 
@@ -25,3 +26,11 @@ returns-in-Err-clause-unopened g c = λ t.
 
 pub returns-in-Err-clause-joins : goal.returns-in-Err-clause-joins
 returns-in-Err-clause-joins g c = λ t. joins_start (g.T.Site.state c.args.site.now) (g.met.T.Site.is_now c.args.site.now t)
+
+pub returns-in-Ok-clause-work : goal.returns-in-Ok-clause-work
+returns-in-Ok-clause-work g c = λ s t sound.
+    let P : Slots → Type 0 = λ x. c.serve_slots.new.steps ≤ c.args.steps.now + session_work (g.T.Site.state c.args.site.now).content x (g.S.Source.left c.args.source.now) in
+    subst P c.in-Ok.ensures (c.serve_slots.ensures.work s t sound)
+
+pub returns-in-Err-clause-work : goal.returns-in-Err-clause-work
+returns-in-Err-clause-work g c = λ s t sound. omega arith

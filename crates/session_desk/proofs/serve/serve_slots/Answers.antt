@@ -1,4 +1,4 @@
-use Rattle.std.proofs.Common.{⊎_elim, sym, subst}
+use Rattle.std.proofs.Common.{arith, ⊎_elim, sym, subst}
 use Rattle.site_disk.specs.State.{Safe}
 use Rattle.site_disk.specs.Causes.{Rose}
 use Rattle.site_disk.proofs.Moments.{joins_on}
@@ -6,7 +6,8 @@ use Rattle.event_feed.specs.Meanings.{meanings}
 use Rattle.session_desk.specs.Courses.{session}
 use Rattle.session_desk.specs.Headline.{IsMoment, IsSettled}
 use Rattle.session_desk.specs.Opened.{state_of, refusal_course}
-use Rattle.session_desk.proofs.Serving.{opening-moments, serves-moments, serves-all, serves-whole, serves-kept, serves-settled, completes, refuses-all, refuses-moments, opening-settled, outside, not-site, rose-later, rose-before, no-fault, never-source, never-ended, never-unopened, untouched-moments}
+use Rattle.session_desk.specs.Session.{requests_of}
+use Rattle.session_desk.proofs.Serving.{works-are, opening-moments, serves-moments, serves-all, serves-whole, serves-kept, serves-settled, completes, refuses-all, refuses-moments, opening-settled, outside, not-site, rose-later, rose-before, no-fault, never-source, never-ended, never-unopened, untouched-moments}
 use Rattle.session_desk.proofs.serve.serve_slots.Goals as goal
 
 pub returns-in-Ok-clause-serves : goal.returns-in-Ok-clause-serves
@@ -110,3 +111,16 @@ returns-in-Ok-clause-joins g c = λ t. joins_on (g.T.Site.state c.args.site.now)
 
 pub returns-in-Err-clause-joins : goal.returns-in-Err-clause-joins
 returns-in-Err-clause-joins g c = λ t. joins_on (g.T.Site.state c.args.site.now) (g.T.Site.state c.begin.new.site) (g.T.Site.state c.say_fault.new.site) (c.begin.ensures.told t).safe.joins (c.say_fault.ensures.moments t).joins
+
+pub returns-in-Ok-clause-work : goal.returns-in-Ok-clause-work
+returns-in-Ok-clause-work g c = λ s t sound.
+    let told = c.in-Ok.ensures.told t in
+    let as_is = told.store sound.due in
+    let watchers = meanings g.W.Watcher.says_after c.args.feed.slots.items in
+    let same = works-are (state_of c.in-Ok.warehouse) watchers (g.T.Site.state c.args.site.now).content (requests_of (g.S.Source.left c.args.source.now)) as_is.store in
+    let first = c.begin.ensures.work t sound in
+    let more = c.converse_by_metric.ensures.work s as_is.clustered in
+    omega (arith, same, first, more)
+
+pub returns-in-Err-clause-work : goal.returns-in-Err-clause-work
+returns-in-Err-clause-work g c = λ s t sound. let first = c.begin.ensures.work t sound in omega (arith, first)
