@@ -4,7 +4,7 @@
 look:
 	@echo "look: groups 54 images. The program is built without proofs, which takes about a minute on an idle machine."
 	@DENSEWH=$(CURDIR)/tools/unproved.sh examples/images/run.sh $(OUT)
-	@echo "look: not proved yet. make demo proves the program and builds it, with about half an hour of processor time."
+	@echo "look: not proved yet. make demo proves the program and builds it, with about an hour of processor time."
 
 # Proves and builds the program, and runs it on two examples: one clustering, and a store of a day's batches
 # in a folder of its own.

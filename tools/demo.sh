@@ -12,7 +12,7 @@ mapfile -t crates < <(tac crates.txt | awk -F ': *' '
         while (count) wanted[below[count--]] = 1
     }' | tac)
 echo "demo: proves ${#crates[@]} crates and the program above them, builds it, and runs it on two examples."
-echo "demo: what is proved already isn't proved again. From nothing it takes about half an hour of processor time."
+echo "demo: what is proved already isn't proved again. From nothing it takes about an hour of processor time."
 log=$(mktemp)
 trap 'rm -f "$log"' EXIT
 for place in "${!crates[@]}"; do
