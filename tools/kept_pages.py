@@ -12,6 +12,7 @@ import contextlib
 import io
 import os
 import struct
+import subprocess
 import sys
 import tempfile
 
@@ -124,6 +125,42 @@ def gates(content):
         expect(store.bytes()[1] == (0 if gate == 1 else gate), f"gate {gate}: the gate after an opening")
 
 
+def changed(content, *bytes_at):
+    """The status and the text of `serve` over a store with these bytes changed, and whether the file stayed as it was."""
+    store = Store([])
+    with open(store.path, "wb") as file:
+        file.write(content)
+    for at, value in bytes_at:
+        store.put(at, value)
+    before = store.bytes()
+    ended = subprocess.run([changes.PROGRAM, "serve"], input=b"", capture_output=True, cwd=store.folder.name, check=False)
+    return ended.returncode, ended.stdout.decode(), store.bytes() == before
+
+
+# What one record's store becomes where bytes of it are changed: free slots, fields out of their ranges, a parent distance of
+# the root, a number without a record, another version; and a redo start that isn't that of a page, behind an open gate.
+DAMAGE = [
+    ([(2 * PAGE + 40, 1)], "damaged page 2 offset 40\n"),
+    ([(2 * PAGE + 20, 0)], "damaged page 2 offset 20\n"),
+    ([(2 * PAGE + 20, 2)], "damaged page 2 offset 28\n"),
+    ([(3 * PAGE + 36, 5)], "damaged page 3 offset 36\n"),
+    ([(3 * PAGE + 32, 4)], "damaged page 3 offset 32\n"),
+    ([(PAGE + 8, 9)], "damaged page 1 offset 8\n"),
+    ([(PAGE + 4, 7)], "foreign store\n"),
+    ([(PAGE + 4, 0)], "foreign store\n"),
+    ([(1, 1), (9, 1)], "damaged page 0 offset 8\n"),
+]
+
+
+def damage():
+    store = Store(SMALL)
+    store.batch("+,3,9")
+    for changes_made, due in DAMAGE:
+        status, said, same = changed(store.bytes(), *changes_made)
+        expect((status, said) == (7, due), f"bytes {changes_made}: {status} {said}")
+        expect(same, f"bytes {changes_made}: the file was changed")
+
+
 def two_cores():
     store = Store(SMALL)
     store.batch("+,1,0", "+,2,1")
@@ -170,13 +207,14 @@ def main():
         return
     new_store()
     one_record()
+    damage()
     two_cores()
     come_and_go()
     pages = [reopened(metric, dim, eps, minpts, shift)
              for shift in (24, 28)
              for metric, dim, eps in (("l1", 2, 3), ("max", 2, 2), ("hamming", 2 * (32 - shift), 2))
              for minpts in (2, 4)]
-    print(f"kept pages: worked bytes, gates, 31 that come and go; 12 times 300 changes with 30 openings, {sum(pages)} pages")
+    print(f"kept pages: worked bytes, gates, {len(DAMAGE)} damages, 31 that come and go; 12 times 300 changes with 30 openings, {sum(pages)} pages")
 
 
 if __name__ == "__main__":
