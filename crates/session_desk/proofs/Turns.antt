@@ -212,16 +212,16 @@ pays-first d input n =
     omega (arith, same)
 
 module _ (d : Desk) (q : Request) (now more : List Request) (before after bound : ℕ) (are : now ≡ q ∷ more) (paid : after ≤ before + work_on d q) (left : before + works_on d now ≤ bound) where
-    pub pays-on : (next : Desk) → next ≡ desk_behind d (answer_on d q) → after + works_on next more ≤ bound
-    pays-on next desk =
-        let one : works_on d now ≡ work_on d q + works_on (desk_behind d (answer_on d q)) more = ap (works_on d) are in
-        let two : works_on next more ≡ works_on (desk_behind d (answer_on d q)) more = ap (λ (x : Desk). works_on x more) desk in
-        omega (arith, one, two, paid, left)
+  pub pays-on : (next : Desk) → next ≡ desk_behind d (answer_on d q) → after + works_on next more ≤ bound
+  pays-on next desk =
+      let one : works_on d now ≡ work_on d q + works_on (desk_behind d (answer_on d q)) more = ap (works_on d) are in
+      let two : works_on next more ≡ works_on (desk_behind d (answer_on d q)) more = ap (λ (x : Desk). works_on x more) desk in
+      omega (arith, one, two, paid, left)
 
-    pub pays-last : after ≤ bound
-    pays-last =
-        let one : works_on d now ≡ work_on d q + works_on (desk_behind d (answer_on d q)) more = ap (works_on d) are in
-        omega (arith, one, paid, left)
+  pub pays-last : after ≤ bound
+  pays-last =
+      let one : works_on d now ≡ work_on d q + works_on (desk_behind d (answer_on d q)) more = ap (works_on d) are in
+      omega (arith, one, paid, left)
 
 -- and after each a request more
 next-asked : (input : List ℕ) (asked : List Request) (r new : Reading) (left left' : List ℕ) (q : Request) → IsRead input asked r left → IsNext q r left new left' → requests_of input ≡ asked ++ (q ∷ asks new.room (rest_of new left'))
